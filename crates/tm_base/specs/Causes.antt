@@ -1,6 +1,10 @@
 -- Why a call failed: the count of faults of the device rose.
 use Rattle.std.specs.Prelude.{ℕ, ◌+◌, ◌-◌, ◌^◌, ◌≤◌, min, Result, OnErr}
 
+-- one fault more, up to the last value of a u64
+abbrev pub one_fault_more : ℕ → ℕ
+one_fault_more faults = min (faults + 1) (2 ^ 64 - 1)
+
 -- a count rose, or stands at the last value of a u64
 abbrev pub Rose : ℕ → ℕ → Type 0
 Rose before now = min (before + 1) (2 ^ 64 - 1) ≤ now

@@ -7,12 +7,32 @@
 
 mod clock;
 mod failed;
+mod fault_plan;
+mod free_gate;
 mod gate;
+mod mem_clock;
+mod mem_sink;
+mod mem_source;
 mod sink;
 mod source;
+mod std_sink;
+mod std_source;
+mod system_clock;
+mod told;
+mod writing;
 
 pub use clock::Clock;
 pub use failed::Failed;
+pub use fault_plan::FaultPlan;
+pub use free_gate::FreeGate;
 pub use gate::Gate;
+pub use mem_clock::MemClock;
+pub use mem_sink::MemSink;
+pub use mem_source::MemSource;
 pub use sink::Sink;
 pub use source::Source;
+pub use std_sink::StdSink;
+pub use std_source::StdSource;
+pub use system_clock::SystemClock;
+pub use told::{Items, Told};
+pub use writing::write_all;

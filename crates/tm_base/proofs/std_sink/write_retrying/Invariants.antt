@@ -1,0 +1,5 @@
+use Rattle.tm_base.specs.Told.{Stays}
+use Rattle.tm_base.proofs.std_sink.write_retrying.Given as goal
+
+abbrev pub invariant-loop : goal.invariant-loop
+invariant-loop g l = Stays (g.T.Write.contents l.fn.writer) (g.T.Write.contents l.writer)

@@ -1,0 +1,5 @@
+use Rattle.tm_base.specs.Told.{Stays}
+use Rattle.tm_base.proofs.std_source.read_retrying.Given as goal
+
+abbrev pub invariant-loop : goal.invariant-loop
+invariant-loop g l = Stays (g.R.Read.remaining l.fn.reader) (g.R.Read.remaining l.reader)

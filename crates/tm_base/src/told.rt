@@ -1,0 +1,41 @@
+//! A list that only contracts read.
+ghost use Rattle.std.specs.Prelude.{◌≡◌, List, [], ◌∷◌, ◌++◌};
+ghost use Rattle.std.specs.Borrow.{ftrue};
+
+use std::marker::{Brand, Model, PhantomData};
+
+/// What a list is to be, for contracts alone.
+pub trait Items<T> {
+    ghost items: { List T };
+}
+
+impl<T> Items<T> for Brand {
+    ghost items = { [] };
+}
+
+/// A list that only contracts read: it takes no memory, and code cannot look at it.
+#[derive(Drop)]
+pub struct Told<T> {
+    of: PhantomData<T>,
+    pub ghost items: { List T },
+}
+
+impl<T> Model for Told<T> {
+    ghost also_owns = { λ _. ftrue };
+}
+
+impl<T> Told<T> {
+    /// The empty list.
+    pub fn new() -> Told<T>
+        ensures { result.items ≡ [] }
+    {
+        Told { of: PhantomData }
+    }
+
+    /// The list that the caller's proof picks.
+    pub fn of<E: Items<T>>() -> Told<T>
+        ensures { result.items ≡ E.items }
+    {
+        Told { of: PhantomData }
+    }
+}
