@@ -1,5 +1,5 @@
 -- What the devices in memory stand for, and what a call does.
-use Rattle.std.specs.Prelude.{◌≡◌, ℕ, ◌+◌, List, [], ◌∷◌, ◌++◌, length, take, drop, min, max}
+use Rattle.std.specs.Prelude.{ℕ, List, [], ◌∷◌, ◌++◌, length, drop, min, max}
 use Rattle.tm_base.specs.Causes.{one_fault_more}
 use Rattle.tm_base.specs.Plan.{Plan, after_call, after_fault}
 

@@ -20,6 +20,10 @@ writer_of sink = sink.writer
 abbrev pub sink_faults : {T : Type 0} → StdSink T → ℕ
 sink_faults sink = sink.faults
 
+-- the runtime of a clock
+abbrev pub runtime_of : {C : Type 0} → SystemClock C → C
+runtime_of clock = clock.clock
+
 -- the last good reading of a clock, or 0
 abbrev pub last_reading : {C : Type 0} → SystemClock C → ℕ
 last_reading clock = clock.last

@@ -36,3 +36,6 @@ pub use std_source::StdSource;
 pub use system_clock::SystemClock;
 pub use told::{Items, Told};
 pub use writing::write_all;
+
+#[cfg(test)]
+mod tests;

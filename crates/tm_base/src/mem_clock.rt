@@ -8,7 +8,7 @@ use crate::told::{Items, Told};
 use std::marker::{Brand, Model};
 
 /// A clock that gives readings from memory, and repeats the last one.
-#[derive(Drop)]
+#[derive(Debug, Drop)]
 pub struct MemClock {
     readings: Vec<u64>,
     // How many readings were given.

@@ -32,8 +32,12 @@ impl MemSink {
     /// An empty sink. A write takes at most the greater of `most` and 1 bytes. The calls with a number in `failing`,
     /// counted from 0, fail. It takes no memory.
     pub fn new(alloc: Global, most: usize, failing: Vec<u64>) -> MemSink
-        ensures { result ≡ record { written = []; most = most;
-            plan = record { failing = failing.items; calls = 0; faults = 0 }; lacked = 0 } }
+        ensures { result ≡ record {
+          written = [];
+          most = most;
+          plan = record { failing = failing.items; calls = 0; faults = 0 };
+          lacked = 0;
+        } }
     {
         MemSink {
             bytes: Vec::new(alloc),

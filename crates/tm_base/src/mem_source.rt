@@ -38,8 +38,11 @@ impl MemSource {
     /// the list as many as there is room for. Its calls with a number in `failing`, counted from 0, fail. It takes no
     /// memory.
     pub fn new(bytes: Vec<u8>, cuts: Vec<usize>, failing: Vec<u64>) -> MemSource
-        ensures { result ≡ record { left = bytes.items; cuts = cuts.items;
-            plan = record { failing = failing.items; calls = 0; faults = 0 } } }
+        ensures { result ≡ record {
+          left = bytes.items;
+          cuts = cuts.items;
+          plan = record { failing = failing.items; calls = 0; faults = 0 };
+        } }
     {
         MemSource {
             bytes,

@@ -65,22 +65,24 @@ impl<T: Write> StdSink<T> {
 }
 
 impl<T: Write> Sink for StdSink<T> {
-    ghost written = { λ s. T.contents s.writer };
+    ghost use Rattle.tm_base.specs.StdEdge.{writer_of, sink_faults};
 
-    ghost faults = { λ s. s.faults };
+    ghost written = { λ s. T.contents (writer_of s) };
+
+    ghost faults = { sink_faults };
 
     /// A write that a signal interrupts is tried again, as std's own helpers do, and is no fault. A writer that takes
     /// nothing of a piece that is not empty is one.
     fn write(&mut self, from: &[u8]) -> Result<usize, Failed>
         ensures bound { IfOk result (λ n. n ≤ length from.now) }
         ensures some { IfOk result (λ n. 0 < length from.now → 0 < n) }
-        ensures bytes { IfOk result (λ n. Grows (T.contents self.old.writer) (T.contents self.new.writer) (take n from.now)) }
-        ensures stays { OnErr result (Stays (T.contents self.old.writer) (T.contents self.new.writer)) }
-        ensures cause { HasCause self.old.faults self.new.faults result }
-        ensures no_fault { OnOk result (self.new.faults ≡ self.old.faults) }
+        ensures bytes { IfOk result (λ n. Grows (T.contents (writer_of self.old)) (T.contents (writer_of self.new)) (take n from.now)) }
+        ensures stays { OnErr result (Stays (T.contents (writer_of self.old)) (T.contents (writer_of self.new))) }
+        ensures cause { HasCause (sink_faults self.old) (sink_faults self.new) result }
+        ensures no_fault { OnOk result (sink_faults self.new ≡ sink_faults self.old) }
 
         // A call that fails counts one fault.
-        ensures one_fault { OnErr result (self.new.faults ≡ one_fault_more self.old.faults) }
+        ensures one_fault { OnErr result (sink_faults self.new ≡ one_fault_more (sink_faults self.old)) }
     {
         match write_retrying(&mut self.writer, from) {
             Some(count) => Ok(count),

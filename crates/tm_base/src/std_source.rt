@@ -42,21 +42,23 @@ impl<R> StdSource<R> {
 }
 
 impl<R: Read> Source for StdSource<R> {
-    ghost left = { λ s. R.remaining s.reader };
+    ghost use Rattle.tm_base.specs.StdEdge.{reader_of, source_faults};
 
-    ghost faults = { λ s. s.faults };
+    ghost left = { λ s. R.remaining (reader_of s) };
+
+    ghost faults = { source_faults };
 
     /// A read that a signal interrupts is tried again, as std's own helpers do, and is no fault.
     fn read(&mut self, into: &mut [u8]) -> Result<usize, Failed>
         ensures bound { IfOk result (λ n. n ≤ length into.new) }
-        ensures bytes { IfOk result (λ n. Gives (R.remaining self.old.reader) (R.remaining self.new.reader) n into.new) }
-        ensures end { IfOk result (λ n. n ≡ 0 → 0 < length into.old → IsEmptyWhereTold (R.remaining self.old.reader)) }
-        ensures stays { OnErr result (Stays (R.remaining self.old.reader) (R.remaining self.new.reader)) }
-        ensures cause { HasCause self.old.faults self.new.faults result }
-        ensures no_fault { OnOk result (self.new.faults ≡ self.old.faults) }
+        ensures bytes { IfOk result (λ n. Gives (R.remaining (reader_of self.old)) (R.remaining (reader_of self.new)) n into.new) }
+        ensures end { IfOk result (λ n. n ≡ 0 → 0 < length into.old → IsEmptyWhereTold (R.remaining (reader_of self.old))) }
+        ensures stays { OnErr result (Stays (R.remaining (reader_of self.old)) (R.remaining (reader_of self.new))) }
+        ensures cause { HasCause (source_faults self.old) (source_faults self.new) result }
+        ensures no_fault { OnOk result (source_faults self.new ≡ source_faults self.old) }
 
         // A call that fails counts one fault.
-        ensures one_fault { OnErr result (self.new.faults ≡ one_fault_more self.old.faults) }
+        ensures one_fault { OnErr result (source_faults self.new ≡ one_fault_more (source_faults self.old)) }
     {
         match read_retrying(&mut self.reader, into) {
             Some(count) => Ok(count),

@@ -15,22 +15,25 @@ pub struct SystemClock<C> {
 }
 
 impl<C> SystemClock<C> {
-    ghost use Rattle.tm_base.specs.StdEdge.{last_reading};
+    ghost use Rattle.tm_base.specs.StdEdge.{runtime_of, last_reading};
 
     /// A clock over the runtime, which no reading was taken of.
     pub fn new(clock: C) -> SystemClock<C>
-        ensures { last_reading result ≡ 0 }
+        ensures runtime { runtime_of result ≡ clock }
+        ensures last { last_reading result ≡ 0 }
     {
         SystemClock { clock, last: 0 }
     }
 }
 
 impl<C: rt::Clock> Clock for SystemClock<C> {
+    ghost use Rattle.tm_base.specs.StdEdge.{last_reading};
+
     ghost readings = { λ _. None };
 
     fn now(&mut self) -> u64
         ensures told { Grows None None (result ∷ []) }
-        ensures last { result ≡ self.new.last }
+        ensures last { result ≡ last_reading self.new }
     {
         if let Some(seconds) = seconds_of(&self.clock) {
             self.last = seconds;
@@ -41,6 +44,9 @@ impl<C: rt::Clock> Clock for SystemClock<C> {
 
 // The seconds since 1970, where the clock can be read.
 fn seconds_of<C: rt::Clock>(clock: &C) -> Option<u64> {
-    let since = SystemTime::now(clock).ok()?.duration_since(UNIX_EPOCH).ok()?;
+    let since = SystemTime::now(clock)
+        .ok()?
+        .duration_since(UNIX_EPOCH)
+        .ok()?;
     Some(since.as_secs())
 }

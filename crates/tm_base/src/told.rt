@@ -2,6 +2,7 @@
 ghost use Rattle.std.specs.Prelude.{◌≡◌, List, [], ◌∷◌, ◌++◌};
 ghost use Rattle.std.specs.Borrow.{ftrue};
 
+use std::fmt;
 use std::marker::{Brand, Model, PhantomData};
 
 /// What a list is to be, for contracts alone.
@@ -22,6 +23,15 @@ pub struct Told<T> {
 
 impl<T> Model for Told<T> {
     ghost also_owns = { λ _. ftrue };
+}
+
+// It owns nothing.
+unsafe impl<T: Send> Send for Told<T> {}
+
+impl<T> fmt::Debug for Told<T> {
+    fn fmt<W: fmt::Write>(&self, f: &mut fmt::Formatter<W>) -> fmt::Result {
+        f.write_str("Told")
+    }
 }
 
 impl<T> Told<T> {

@@ -1,4 +1,4 @@
-use Rattle.std.proofs.Common.{◌≡◌, ℕ, List, ◌++◌, ◌+◌, ◌-◌, length, ◌∙◌, ap, Some, take, drop, arith}
+use Rattle.std.proofs.Common.{ℕ, List, ◌++◌, ◌-◌, length, ◌∙◌, ap, Some, take, drop, arith}
 use Rattle.std.proofs.lemmas.List.{length-drop, length-take}
 use Rattle.tm_base.proofs.Pieces.{from_place}
 use Rattle.tm_base.proofs.writing.write_all.Goals as goal

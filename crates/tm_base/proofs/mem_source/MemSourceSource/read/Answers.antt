@@ -1,4 +1,4 @@
-use Rattle.std.proofs.Common.{◌≡◌, ◌+◌, ◌-◌, ◌^◌, ◌<◌, ◌∙◌, min, drop, vec_len, ap, sym, arith}
+use Rattle.std.proofs.Common.{◌≡◌, drop, ap, sym, arith}
 use Rattle.std.proofs.lemmas.List.{drop-drop}
 use Rattle.tm_base.proofs.Pieces.{one_further}
 use Rattle.tm_base.proofs.mem_source.MemSourceSource.read.Goals as goal
