@@ -1,4 +1,6 @@
 //! The devices on worked cases.
+ghost use Rattle.std.specs.Prelude.{◌≤◌, IfOk};
+
 use super::*;
 use std::alloc::{AllocError, Global};
 use std::io;
@@ -261,6 +263,71 @@ fn devices_over_std_pass_bytes_on(rt: HostRuntime) -> Result<(), Fail> {
     assert_eq!(rt; full.write(b""), Ok(0));
     let _ = full.into_inner();
     assert_eq!(rt; room, [b'a', b'b']);
+    Ok(())
+}
+
+// A device of std that is interrupted, moves a byte, breaks and moves a byte, over and over.
+#[derive(Drop)]
+struct Shaky {
+    calls: u8,
+}
+
+impl Shaky {
+    fn answer(&mut self, room: usize) -> io::Result<usize>
+        ensures { IfOk result (λ n. n ≤ room) }
+    {
+        let call = self.calls % 4;
+        self.calls = call + 1;
+        match call {
+            0 => Err(io::Error::new(io::ErrorKind::Interrupted, "a signal came")),
+            2 => Err(io::Error::new(io::ErrorKind::Other, "it broke")),
+            _ => Ok(room.min(1)),
+        }
+    }
+}
+
+impl io::Read for Shaky {
+    fn read(&mut self, buf: &mut [u8]) -> io::Result<usize> {
+        self.answer(buf.len())
+    }
+}
+
+impl io::Write for Shaky {
+    fn write(&mut self, buf: &[u8]) -> io::Result<usize> {
+        self.answer(buf.len())
+    }
+
+    fn flush(&mut self) -> io::Result<()> {
+        self.answer(0)?;
+        Ok(())
+    }
+}
+
+#[test]
+fn an_interrupted_call_is_no_fault_and_a_broken_one_is(rt: HostRuntime) {
+    let mut source = StdSource::new(Shaky { calls: 0 });
+    let mut buffer = [0; 3];
+    for want in [Ok(1), Err(Failed), Ok(1), Ok(1)] {
+        assert_eq!(rt; source.read(&mut buffer), want);
+    }
+    assert_eq!(rt; source.faults(), 1);
+
+    let mut sink = StdSink::new(Shaky { calls: 0 });
+    for want in [Ok(1), Err(Failed), Ok(1)] {
+        assert_eq!(rt; sink.write(b"abc"), want);
+    }
+    assert_eq!(rt; sink.flush(), Err(Failed));
+    assert_eq!(rt; sink.flush(), Ok(()));
+    assert_eq!(rt; sink.faults(), 2);
+}
+
+#[test]
+fn a_flush_empties_the_buffer(rt: HostRuntime) -> Result<(), Fail> {
+    let alloc = rt.alloc();
+    let mut sink = StdSink::new(io::BufWriter::new(alloc, Vec::new(alloc))?);
+    assert_eq!(rt; write_all(&mut sink, b"hello"), Ok(()));
+    assert_eq!(rt; sink.flush(), Ok(()));
+    assert_eq!(rt; sink.into_inner().get_ref().as_slice(), b"hello".as_slice());
     Ok(())
 }
 
