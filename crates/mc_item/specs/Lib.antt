@@ -1,0 +1,4 @@
+pub mod Expiry
+pub mod Numbers
+pub mod Keys
+pub mod Classes
