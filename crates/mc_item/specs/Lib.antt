@@ -1,4 +1,0 @@
-pub mod Expiry
-pub mod Numbers
-pub mod Keys
-pub mod Classes

@@ -1,8 +1,0 @@
-//! Expiry.
-
-/// When an item goes.
-#[derive(Clone, Copy)]
-pub enum Expiry {
-    Never,
-    At(u64),
-}
