@@ -10,7 +10,8 @@ pub const LONGEST_EXPTIME: usize = 19;
 
 #[tactic(auto, unfolding(crate::specs::Numbers::digits_below))]
 fn digits(text: &[u8], longest: usize, most: u64) -> Option<u64>
-    ensures { result ≡ digits_below longest (most + 1) text.now }
+    ensures value { result ≡ digits_below longest (most + 1) text.now }
+    ensures most { IfSome result (λ value. value ≤ most) }
 {
     if text.is_empty() || longest < text.len() {
         return None;
@@ -56,5 +57,6 @@ pub fn exptime(text: &[u8]) -> Option<i64>
 fn magnitude(text: &[u8]) -> Option<i64>
     ensures { result ≡ option_map pos (magnitude text.now) }
 {
-    digits(text, LONGEST_EXPTIME, i64::MAX as u64).map(|value| value as i64)
+    let value = digits(text, LONGEST_EXPTIME, i64::MAX as u64)?;
+    Some(value as i64)
 }
