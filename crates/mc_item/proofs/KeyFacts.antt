@@ -1,0 +1,10 @@
+-- What follows from the rule of keys.
+use Rattle.std.proofs.Common.{◌≡◌, ℕ, ◌<◌, ◌≤◌, Bool, true, false, ◌&&◌, not, List, length, arith}
+use Rattle.std.specs.List.{list_all}
+use Rattle.std.proofs.lemmas.Bool.Decides.{nat_tests}
+use Rattle.mc_item.specs.Keys.{is_key_byte, is_key}
+
+-- with a lawful length the bytes decide
+pub is_key-in_range : (bytes : List ℕ) → 1 ≤ length bytes → length bytes ≤ 250 → is_key bytes ≡ list_all is_key_byte bytes
+unfolding is_key
+is_key-in_range bytes some few = grind (arith, nat_tests)

@@ -1,0 +1,8 @@
+use Rattle.std.proofs.Common.{◌≡◌, true, take}
+use Rattle.std.specs.List.{list_all}
+use Rattle.mc_item.specs.Numbers.{is_digit, value_of}
+use Rattle.mc_item.proofs.number.digits.Given as goal
+
+abbrev pub invariant-loop-byte : goal.invariant-loop-byte
+invariant-loop-byte l =
+    (l.value ≡ value_of (take l.byte-index l.text)) × (list_all is_digit (take l.byte-index l.text) ≡ true)
