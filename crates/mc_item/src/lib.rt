@@ -2,8 +2,13 @@
 //! expires, and numbers as memcached's protocol.txt writes them.
 #![tactic(auto)]
 
-pub mod bytes;
-pub mod class;
-pub mod expiry;
-pub mod key;
+mod bytes;
+mod class;
+mod expiry;
+mod key;
 pub mod number;
+
+pub use bytes::Bytes;
+pub use class::{CLASSES, class_of};
+pub use expiry::{Expiry, LONGEST_RELATIVE, due, expired};
+pub use key::{Key, KeyRefused, LONGEST_KEY, is_key};

@@ -1,4 +1,4 @@
--- The bytes that show a reply, in memcached's words.
+-- The bytes of what is shown: the words of memcached's protocol.txt, and after CLIENT_ERROR and SERVER_ERROR words of our own.
 use Rattle.std.specs.Prelude.{ℕ, Bool, if◌then◌else◌, List, [], ◌∷◌, ◌++◌, length, codes}
 use Rattle.std.specs.List.{flat_map}
 use Rattle.std.specs.Fmt.{decimal}

@@ -20,16 +20,16 @@ pub data KeyOp : Type 0 where
   Touch : ℤ → KeyOp
   Delete : KeyOp
 
--- what it leaves: the reply, the key's item, the class's count of changes, and whether a store is counted
+-- what it leaves: the reply, the item that the key has then, the class's count of changes, and whether a store is counted
 pub record Outcome : Type 0 where
   pub reply : ShardReply
   pub item : Option Item
   pub changes : ℕ
-  pub counts : Bool
+  pub is_store : Bool
 
 -- the most bytes of a value
-abbrev pub most_value : ℕ
-most_value = 1048576
+abbrev pub most_length : ℕ
+most_length = 1048576
 
 -- the most changes of a class
 abbrev pub most_changes : ℕ
@@ -39,13 +39,13 @@ most_changes = 2 ^ 58 - 1
 abbrev pub cas_of : ℕ → ℕ → ℕ
 cas_of class change = 64 * change + class
 
--- a reply that leaves the item as it was
-abbrev pub refused : ShardReply → ℕ → Option Item → Outcome
-refused reply changes before = record { reply = reply; item = before; changes = changes; counts = false }
+-- a reply with no change counted, where the key has this item then
+abbrev pub leaving : ShardReply → ℕ → Option Item → Outcome
+leaving reply changes item = record { reply = reply; item = item; changes = changes; is_store = false }
 
 -- ---- store
 
--- why a value of this length is not stored, where the key has this
+-- what the item of the key says against a store of a value of this length
 abbrev pub refusal_of : How → ℕ → Option Item → Option ShardReply
 refusal_of Set size before = None
 refusal_of Add size (Some item) = Some reply.NotStored
@@ -53,9 +53,9 @@ refusal_of Add size None = None
 refusal_of Replace size None = Some reply.NotStored
 refusal_of Replace size (Some item) = None
 refusal_of Append size None = Some reply.NotStored
-refusal_of Append size (Some item) = if nat_lt most_value (length item.value + size) then Some reply.TooLarge else None
+refusal_of Append size (Some item) = if nat_lt most_length (length item.value + size) then Some reply.TooLarge else None
 refusal_of Prepend size None = Some reply.NotStored
-refusal_of Prepend size (Some item) = if nat_lt most_value (length item.value + size) then Some reply.TooLarge else None
+refusal_of Prepend size (Some item) = if nat_lt most_length (length item.value + size) then Some reply.TooLarge else None
 refusal_of (Cas unique) size None = Some reply.NotFound
 refusal_of (Cas unique) size (Some item) = if item.cas == unique then None else Some reply.Exists
 
@@ -65,24 +65,24 @@ stored_item Append flags due value cas (Some item) = record { value = item.value
 stored_item Prepend flags due value cas (Some item) = record { value = value ++ item.value; flags = item.flags; due = item.due; cas = cas }
 stored_item how flags due value cas before = record { value = value; flags = flags; due = due; cas = cas }
 
--- stored, unless something refuses it or no change is left
+-- stored, unless it is refused or no change is left
 abbrev pub store_unless : Option ShardReply → ℕ → Option Item → Item → Outcome
-store_unless (Some refusal) changes before item = refused refusal changes before
+store_unless (Some refusal) changes before item = leaving refusal changes before
 store_unless None changes before item =
-    if changes == most_changes then refused reply.OutOfCas changes before
-    else record { reply = reply.Stored; item = Some item; changes = changes + 1; counts = true }
+    if changes == most_changes then leaving reply.OutOfCas changes before
+    else record { reply = reply.Stored; item = Some item; changes = changes + 1; is_store = true }
 
 abbrev pub store_outcome : ℕ → ℕ → ℕ → How → ℕ → ℤ → List ℕ → Option Item → Outcome
 store_outcome class moment changes how flags exptime value before =
-    if nat_lt most_value (length value) then refused reply.TooLarge changes before
+    if nat_lt most_length (length value) then leaving reply.TooLarge changes before
     else store_unless (refusal_of how (length value) before) changes before
     (stored_item how flags (due_at exptime moment) value (cas_of class (changes + 1)) before)
 
 -- ---- get, change, touch, delete
 
 abbrev pub get_outcome : ℕ → Option Item → Outcome
-get_outcome changes None = refused reply.Missing changes None
-get_outcome changes (Some item) = refused (reply.Item item.flags item.cas item.value) changes (Some item)
+get_outcome changes None = leaving reply.Missing changes None
+get_outcome changes (Some item) = leaving (reply.Item item.flags item.cas item.value) changes (Some item)
 
 -- a number after a change: it wraps at 2 ^ 64 upwards, and stops at 0 downwards
 abbrev pub changed : Bool → ℕ → ℕ → ℕ
@@ -91,29 +91,29 @@ changed false number by = number - by
 
 -- the value, read as this number, becomes the decimal text of the changed one; flags and due stay
 abbrev pub change_number : ℕ → ℕ → Bool → ℕ → Item → Option ℕ → Outcome
-change_number class changes up by item None = refused reply.NonNumeric changes (Some item)
+change_number class changes up by item None = leaving reply.NonNumeric changes (Some item)
 change_number class changes up by item (Some number) =
-    if changes == most_changes then refused reply.OutOfCas changes (Some item)
+    if changes == most_changes then leaving reply.OutOfCas changes (Some item)
     else record {
       reply = reply.Number (changed up number by);
       item = Some (record { value = decimal (changed up number by); flags = item.flags; due = item.due; cas = cas_of class (changes + 1) });
       changes = changes + 1;
-      counts = false;
+      is_store = false;
     }
 
 abbrev pub change_outcome : ℕ → ℕ → Bool → ℕ → Option Item → Outcome
-change_outcome class changes up by None = refused reply.NotFound changes None
+change_outcome class changes up by None = leaving reply.NotFound changes None
 change_outcome class changes up by (Some item) = change_number class changes up by item (number_below (2 ^ 64) item.value)
 
 -- the item goes at another time, and keeps its cas number
 abbrev pub touch_outcome : ℕ → ℕ → ℤ → Option Item → Outcome
-touch_outcome moment changes exptime None = refused reply.NotFound changes None
+touch_outcome moment changes exptime None = leaving reply.NotFound changes None
 touch_outcome moment changes exptime (Some item) =
-    refused reply.Touched changes (Some (record { value = item.value; flags = item.flags; due = due_at exptime moment; cas = item.cas }))
+    leaving reply.Touched changes (Some (record { value = item.value; flags = item.flags; due = due_at exptime moment; cas = item.cas }))
 
 abbrev pub delete_outcome : ℕ → Option Item → Outcome
-delete_outcome changes None = refused reply.NotFound changes None
-delete_outcome changes (Some item) = refused reply.Deleted changes None
+delete_outcome changes None = leaving reply.NotFound changes None
+delete_outcome changes (Some item) = leaving reply.Deleted changes None
 
 -- what an operation does in a class, at a moment and after so many changes, where the key has this
 abbrev pub outcome_of : ℕ → ℕ → ℕ → KeyOp → Option Item → Outcome

@@ -1,7 +1,7 @@
-//! The definitions of the store: its commands and replies, a class and what each operation does to it,
-//! the plain store of all keys that a run is compared with, and the bytes that show a reply.
+//! The definitions of the store: what an operation does to a key's item, a class of keys, the plain store of all
+//! keys that a run is compared with, what a client is shown, and its bytes.
 //!
-//! The types here are those that definitions speak of; the definitions stand in `specs/` and nowhere else.
+//! They stand in `specs/` and nowhere else. The types here are those that they speak of.
 #![tactic(auto)]
 
 mod item;

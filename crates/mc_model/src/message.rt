@@ -1,4 +1,4 @@
-//! What a stream of memcached's text protocol says: commands and faults (`protocol.txt`).
+//! What a stream says: the commands of memcached's `protocol.txt`, and the faults of what is no command.
 
 use crate::keys::Keys;
 use mc_item::{Bytes, Key};
@@ -66,13 +66,13 @@ pub enum Fault {
     Unknown,
     /// A known command in a wrong form.
     BadLine,
-    /// An `incr` or `decr` whose amount is no number.
+    /// An `incr` or `decr` that is in form but for its amount, which is no number below 2^64.
     BadDelta,
     /// No end among the first 65,536 bytes of a line.
     LineTooLong,
-    /// A block whose tail is not `\r\n`.
+    /// A block of at most 1,048,576 bytes whose tail is not `\r\n`.
     BadChunk { quiet: bool },
-    /// A block of more than 1,048,576 bytes.
+    /// A block of more than 1,048,576 bytes, whatever its tail.
     TooLarge { quiet: bool },
 }
 

@@ -1,8 +1,8 @@
-//! What a class replies.
+//! What is replied to an operation.
 
 use mc_item::Bytes;
 
-/// The reply of a class to one operation.
+/// The reply to an operation on a key, or to a flush or a count.
 #[derive(Drop)]
 pub enum ShardReply {
     Stored,
@@ -19,8 +19,8 @@ pub enum ShardReply {
     NonNumeric,
     TooLarge,
     OutOfCas,
-    /// How many items the class holds, and how many stores it has counted.
+    /// How many items there are, and how many stores there were.
     Counts { held: u64, stored: u64 },
-    /// Memory was wanting, and nothing has changed.
+    /// Memory was wanting.
     NoMemory,
 }

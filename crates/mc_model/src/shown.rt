@@ -5,7 +5,7 @@ use mc_item::{Bytes, Key};
 use std::alloc::{AllocError, Global};
 use std::marker::Model;
 
-/// A reply of one line that has no number in it.
+/// A line that is the same whenever it is shown.
 #[derive(Clone, Copy, Debug, PartialEq, Eq)]
 pub enum Said {
     Stored,
