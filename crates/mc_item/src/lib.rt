@@ -7,3 +7,5 @@ pub mod class;
 pub mod expiry;
 pub mod key;
 pub mod number;
+#[cfg(test)]
+mod tests;
