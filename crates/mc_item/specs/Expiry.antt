@@ -3,7 +3,8 @@ use Rattle.std.specs.Prelude.{ℕ, ◌+◌, ◌<◌, ℤ, pos, negsuc, Bool, fal
 use Rattle.mc_item.specs.declared.expiry.Expiry.{Expiry}
 use Rattle.mc_item.specs.declared.expiry.Expiry.TheVariants.{Never, At}
 
--- when what is written at a moment with this exptime expires: never at 0, at once below it, after so many seconds up to 30 days, and else at the moment that the exptime is
+-- when what is written at a moment with this exptime expires: never at 0, at once below it,
+-- after so many seconds up to 30 days, and else at the moment that the exptime is
 unfoldable pub due_at : ℤ → ℕ → Expiry
 due_at (pos seconds) now =
     if seconds == 0 then Never else (if nat_le seconds 2592000 then At (now + seconds) else At seconds)

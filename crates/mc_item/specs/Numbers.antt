@@ -1,11 +1,8 @@
 -- Numbers in decimal digits.
-use Rattle.std.specs.Prelude.{ℕ, ◌+◌, ◌-◌, ◌*◌, ℤ, pos, neg_ℤ, Bool, ◌&&◌, List, [], ◌∷◌, length, nat_lt, nat_le, ◌==◌, if◌then◌else◌, Option, Some, None}
+use Rattle.std.specs.Prelude.{ℕ, ◌+◌, ◌-◌, ◌*◌, ℤ, pos, neg_ℤ, ◌&&◌, List, [], ◌∷◌, length, nat_lt, nat_le, ◌==◌, if◌then◌else◌, Option, Some, None}
 use Rattle.std.specs.Option.{option_map}
 use Rattle.std.specs.List.{fold, list_all}
-
--- `0` to `9`
-abbrev pub is_digit : ℕ → Bool
-is_digit byte = nat_le 48 byte && nat_le byte 57
+use Rattle.std.specs.Char.{is_ascii_digit}
 
 -- what the digits are worth, the first the most
 abbrev pub value_of : List ℕ → ℕ
@@ -14,7 +11,7 @@ value_of digits = fold (λ value byte. value * 10 + (byte - 48)) 0 digits
 -- the value of a text of at least one and at most so many digits, if it is below the bound
 unfoldable pub digits_below : ℕ → ℕ → List ℕ → Option ℕ
 digits_below longest bound text =
-    if nat_le 1 (length text) && nat_le (length text) longest && list_all is_digit text && nat_lt (value_of text) bound
+    if nat_le 1 (length text) && nat_le (length text) longest && list_all is_ascii_digit text && nat_lt (value_of text) bound
     then Some (value_of text)
     else None
 

@@ -3,7 +3,8 @@ ghost use Rattle.std.specs.Prelude.{◌≡◌, ◌↔◌, length, nat_eq, refl, 
 ghost use Rattle.std.specs.Ordering.{nat_cmp, as_partial_cmp};
 ghost use Rattle.std.specs.Cmp.Lexicographic.{pointwise, slice_cmp};
 ghost use Rattle.std.specs.Cmp.{partial_order_from_own_ties};
-ghost use Rattle.std.specs.Cmp.Rules.{comparing};
+ghost use Rattle.std.specs.Cmp.Rules.{comparing, hashing};
+ghost use Rattle.std.specs.Hash as fed;
 ghost use Rattle.std.proofs.Common.{rules};
 ghost use Rattle.mc_item.specs.Keys.{is_key_byte, is_key};
 
@@ -11,6 +12,7 @@ use crate::bytes::Bytes;
 use std::alloc::{AllocError, Global};
 use std::cmp::Ordering;
 use std::fmt;
+use std::hash::{Hash, Hasher};
 use std::marker::Model;
 use thiserror::Error;
 
@@ -133,6 +135,16 @@ impl Ord for Key {
 
     fn cmp(&self, other: &Key) -> Ordering {
         self.inner.get().cmp(other.inner.get())
+    }
+}
+
+impl Hash for Key {
+    ghost hash_input = { λ key. fed.slice fed.u8 key };
+
+    ghost respects_eq = { Prim.search (hashing, rules) };
+
+    fn hash<H: Hasher>(&self, state: &mut H) {
+        self.inner.get().hash(state);
     }
 }
 

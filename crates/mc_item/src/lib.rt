@@ -12,3 +12,6 @@ pub use bytes::Bytes;
 pub use class::{CLASSES, class_of};
 pub use expiry::{Expiry, LONGEST_RELATIVE, due, expired};
 pub use key::{Key, KeyRefused, LONGEST_KEY, is_key};
+
+#[cfg(test)]
+mod tests;

@@ -1,6 +1,6 @@
 use Rattle.std.proofs.Common.{◌≤◌, ◌+◌, ◌*◌, ◌-◌, take, get_or, arith, sym, ◌∙◌}
 use Rattle.mc_item.specs.Numbers.{value_of}
-use Rattle.mc_item.proofs.ValueFacts.{digits_below-too_large}
+use Rattle.mc_item.proofs.NumberFacts.{digits_below-too_large}
 use Rattle.mc_item.proofs.number.digits.Goals as goal
 
 pub returns-in_err-checked_mul-clause-value : goal.returns-in_err-checked_mul-clause-value
