@@ -1,0 +1,4 @@
+pub mod ClassFacts
+pub mod ExpiryFacts
+pub mod KeyFacts
+pub mod NumberFacts

@@ -1,0 +1,4 @@
+pub mod Classes
+pub mod Expiry
+pub mod Keys
+pub mod Numbers

@@ -1,0 +1,48 @@
+//! When an item expires.
+ghost use Rattle.std.specs.Prelude.{◌≡◌, ◌≤◌, ◌^◌};
+ghost use Rattle.mc_item.specs.Expiry.{due_at, is_expired, IsDueBelow};
+
+/// The greatest exptime, in seconds, that counts from the present moment: 30 days. A greater one
+/// is a moment itself, as in memcached's protocol.txt.
+pub const LONGEST_RELATIVE: u64 = 2_592_000;
+
+/// When an item expires.
+#[derive(Clone, Copy, Debug, PartialEq, Eq)]
+pub enum Expiry {
+    /// Never.
+    Never,
+    /// At a moment, in seconds, and from then on.
+    At(u64),
+}
+
+/// When an item that is written at the moment `now` with this exptime expires. An exptime of 0 is
+/// never, and a negative one at once.
+#[tactic(auto, unfolding(crate::specs::Expiry::due_at))]
+pub fn due(exptime: i64, now: u64) -> Expiry
+    requires { now ≤ 2 ^ 62 }
+    ensures due { result ≡ due_at exptime now }
+    ensures below { IsDueBelow (2 ^ 63) result }
+{
+    if exptime == 0 {
+        return Expiry::Never;
+    }
+    if exptime < 0 {
+        return Expiry::At(0);
+    }
+    let seconds = exptime as u64;
+    if seconds <= LONGEST_RELATIVE {
+        Expiry::At(now + seconds)
+    } else {
+        Expiry::At(seconds)
+    }
+}
+
+/// Whether an item is expired at the moment `now`.
+pub fn expired(due: Expiry, now: u64) -> bool
+    ensures { result ≡ is_expired due now }
+{
+    match due {
+        Expiry::Never => false,
+        Expiry::At(moment) => moment <= now,
+    }
+}

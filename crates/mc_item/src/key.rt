@@ -1,0 +1,155 @@
+//! Keys of items.
+ghost use Rattle.std.specs.Prelude.{◌≡◌, ◌↔◌, length, nat_eq, refl, true, false, IfOk, IsErrOf};
+ghost use Rattle.std.specs.Ordering.{nat_cmp, as_partial_cmp};
+ghost use Rattle.std.specs.Cmp.Lexicographic.{pointwise, slice_cmp};
+ghost use Rattle.std.specs.Cmp.{partial_order_from_own_ties};
+ghost use Rattle.std.specs.Cmp.Rules.{comparing, hashing};
+ghost use Rattle.std.specs.Hash as fed;
+ghost use Rattle.std.proofs.Common.{rules};
+ghost use Rattle.mc_item.specs.Keys.{is_key_byte, is_key};
+
+use crate::bytes::Bytes;
+use std::alloc::{AllocError, Global};
+use std::cmp::Ordering;
+use std::fmt;
+use std::hash::{Hash, Hasher};
+use std::marker::Model;
+use thiserror::Error;
+
+/// The most bytes that a key has.
+pub const LONGEST_KEY: usize = 250;
+
+/// A key: 1 to 250 bytes, none of them 0 to 32 or 127, as memcached's protocol.txt asks. A
+/// contract sees the list of the bytes. Keys are ordered as their bytes are, the first byte first.
+#[derive(Drop)]
+pub struct Key {
+    inner: Bytes,
+}
+
+impl Model for Key {
+    ghost use Rattle.std.specs.Prelude.{◌≡◌, List, ℕ, true};
+    ghost use Rattle.mc_item.specs.Keys.{is_key};
+
+    ghost Value = { List ℕ };
+
+    ghost view = { λ a. a.inner };
+
+    ghost invariant = { λ a. is_key a.inner ≡ true };
+}
+
+/// Why bytes made no key.
+#[derive(Clone, Copy, Debug, PartialEq, Eq, Error)]
+pub enum KeyRefused {
+    /// The bytes are no key.
+    #[error("BadKey")]
+    BadKey,
+    /// The allocator had no memory.
+    #[error("NoMemory")]
+    NoMemory,
+}
+
+fn is_key_byte(byte: u8) -> bool
+    ensures { result ≡ is_key_byte byte }
+{
+    b' ' < byte && byte != 127
+}
+
+/// Whether the bytes are a key. Each byte is looked at once at most.
+#[tactic(auto, unfolding(crate::specs::Keys::is_key))]
+pub fn is_key(bytes: &[u8]) -> bool
+    ensures { result ≡ is_key bytes.now }
+{
+    if bytes.is_empty() || LONGEST_KEY < bytes.len() {
+        return false;
+    }
+    bytes.iter().all(|byte| is_key_byte(*byte))
+}
+
+impl Key {
+    /// A copy of some bytes, as a key. `BadKey` comes first.
+    pub fn of(alloc: Global, from: &[u8]) -> Result<Key, KeyRefused>
+        ensures ok { IfOk result (λ key. key ≡ from.now) }
+        ensures lawful { IfOk result (λ key. is_key key ≡ true) }
+        ensures bad { IsErrOf result KeyRefused.BadKey ↔ (is_key from.now ≡ false) }
+    {
+        if !is_key(from) {
+            return Err(KeyRefused::BadKey);
+        }
+        match Bytes::of(alloc, from) {
+            Ok(inner) => Ok(Key { inner }),
+            Err(AllocError) => Err(KeyRefused::NoMemory),
+        }
+    }
+
+    /// The bytes of the key.
+    pub fn get(&self) -> &[u8]
+        ensures value { result.now ≡ self.now }
+        ensures lawful { is_key self.now ≡ true }
+    {
+        self.inner.get()
+    }
+}
+
+impl Clone for Key {
+    ghost is_clone = { λ key copy. copy ≡ key };
+
+    fn clone(&self) -> Result<Key, AllocError> {
+        Ok(Key {
+            inner: self.inner.clone()?,
+        })
+    }
+}
+
+impl PartialEq for Key {
+    ghost eq = { pointwise nat_eq };
+
+    ghost laws = { Prim.search (comparing, rules) };
+
+    fn eq(&self, other: &Key) -> bool {
+        self.inner == other.inner
+    }
+}
+
+impl Eq for Key {
+    ghost laws = { Prim.search (comparing, rules) };
+}
+
+impl PartialOrd for Key {
+    ghost partial_cmp = { as_partial_cmp (slice_cmp nat_cmp) };
+
+    ghost laws = { partial_order_from_own_ties (Prim.search (comparing, rules)) (Prim.search (comparing, rules)) };
+
+    fn partial_cmp(&self, other: &Key) -> Option<Ordering> {
+        Some(self.cmp(other))
+    }
+}
+
+impl Ord for Key {
+    ghost cmp = { slice_cmp nat_cmp };
+
+    ghost total = { Prim.search (comparing, rules) };
+
+    ghost matches_partial_cmp = { λ x y. refl };
+
+    ghost matches_eq = { Prim.search (comparing, rules) };
+
+    fn cmp(&self, other: &Key) -> Ordering {
+        self.inner.get().cmp(other.inner.get())
+    }
+}
+
+impl Hash for Key {
+    ghost hash_input = { λ key. fed.slice fed.u8 key };
+
+    ghost respects_eq = { Prim.search (hashing, rules) };
+
+    fn hash<H: Hasher>(&self, state: &mut H) {
+        self.inner.get().hash(state);
+    }
+}
+
+impl fmt::Debug for Key {
+    fn fmt<W: fmt::Write>(&self, f: &mut fmt::Formatter<W>) -> fmt::Result {
+        self.inner.fmt(f)
+    }
+}
