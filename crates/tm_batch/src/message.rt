@@ -1,5 +1,7 @@
 //! Requests, and the answers to them.
 ghost use Rattle.std.specs.Prelude.{◌≡◌, []};
+ghost use Rattle.tm_batch.specs.declared.message.Request.TheVariants.{Bye};
+ghost use Rattle.tm_batch.specs.declared.message.Answer.TheVariants.{ByeDone};
 
 use arrayvec::ArrayVec;
 use tm_seq::Entrusted;
@@ -112,6 +114,8 @@ impl<S: Entrusted> AnswerBatch<S> {
 
 /// What stands in a free place of a batch.
 impl<S: Entrusted> Default for Request<S> {
+    ghost is_default = { λ q. q ≡ Bye };
+
     fn default() -> Self {
         Request::Bye
     }
@@ -119,6 +123,8 @@ impl<S: Entrusted> Default for Request<S> {
 
 /// What stands in a free place of an answer batch.
 impl<S: Entrusted> Default for Answer<S> {
+    ghost is_default = { λ a. a ≡ ByeDone };
+
     fn default() -> Self {
         Answer::ByeDone
     }
@@ -126,6 +132,8 @@ impl<S: Entrusted> Default for Answer<S> {
 
 /// What stands in a free place of an answer batch.
 impl<S: Entrusted> Default for Completion<S> {
+    ghost is_default = { λ c. (c.ticket ≡ 0) × (c.reply ≡ S.kind.no_memory) };
+
     fn default() -> Self {
         Completion {
             ticket: 0,
