@@ -1,4 +1,7 @@
 //! How large a runtime is, and what it begins with.
+ghost use Rattle.std.specs.Prelude.{◌≡◌};
+
+use std::marker::Model;
 
 /// How large a runtime may grow.
 ///
@@ -18,6 +21,36 @@ pub struct Config {
     pub last_id: u64,
 }
 
+/// The places that hold an object at first. Contracts see them as a list.
+#[derive(Drop)]
+pub struct Holders {
+    places: Vec<u32>,
+}
+
+impl Model for Holders {
+    ghost use Rattle.std.specs.Prelude.{ℕ, List};
+
+    ghost Value = { List ℕ };
+
+    ghost view = { λ h. h.places.items };
+}
+
+impl Holders {
+    /// These places.
+    pub fn new(places: Vec<u32>) -> Holders
+        ensures { result ≡ places.items }
+    {
+        Holders { places }
+    }
+
+    /// The places, in order.
+    pub fn places(&self) -> &[u32]
+        ensures { result.now ≡ self.now }
+    {
+        self.places.as_slice()
+    }
+}
+
 /// An object that is entrusted before anything runs.
 #[derive(Drop)]
 pub struct First<S> {
@@ -26,5 +59,5 @@ pub struct First<S> {
     /// The object.
     pub value: S,
     /// The places that hold it at first.
-    pub holders: Vec<u32>,
+    pub holders: Holders,
 }

@@ -10,7 +10,7 @@ mod message;
 mod small;
 
 pub use batch::Batch;
-pub use config::{Config, First};
+pub use config::{Config, First, Holders};
 pub use message::{Answer, AnswerBatch, Completion, Name, Refusal, Request};
 pub use small::Small;
 

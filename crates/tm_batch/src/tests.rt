@@ -2,8 +2,10 @@
 ghost use Rattle.std.specs.Prelude.{◌≡◌, []};
 
 use crate::batch::Batch;
+use crate::config::{First, Holders};
 use crate::message::{Answer, AnswerBatch, Completion, Name, Request};
 use crate::small::Small;
+use std::test::Fail;
 use tm_seq::{Counter, CounterOp, CounterReply};
 
 /// An answer batch of any small kind.
@@ -53,4 +55,21 @@ fn answers_are_kept_in_order(rt: HostRuntime) {
     assert_eq!(rt; batch.gifts[0], Name { id: 1, place: 2 });
     assert_eq!(rt; batch.completions[0].ticket, 0);
     assert!(rt; matches!(batch.completions[0].reply, CounterReply::NoMemory));
+}
+
+#[test]
+fn first_objects_name_their_holders(rt: HostRuntime) -> Result<(), Fail> {
+    let mut places = Vec::new(rt.alloc());
+    places.push(3)?;
+    places.push(1)?;
+    let first = First {
+        trustee: 1,
+        value: Counter { value: 5 },
+        holders: Holders::new(places),
+    };
+    assert_eq!(rt; first.holders.places().len(), 2);
+    assert_eq!(rt; first.holders.places()[0], 3);
+    assert_eq!(rt; first.holders.places()[1], 1);
+    assert_eq!(rt; first.value.value, 5);
+    Ok(())
 }

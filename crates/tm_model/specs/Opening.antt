@@ -9,7 +9,7 @@ use Rattle.tm_model.specs.State.{Object, Place, State, no_place}
 module _ {V : Type 0} where
   -- whether an object of the build names a place as a holder
   abbrev pub is_named : ℕ → First V → Bool
-  is_named c f = list_any (λ h. h == c) f.holders.items
+  is_named c f = list_any (λ h. h == c) f.holders
 
   -- the objects of the build that are placed on a trustee, in order
   abbrev pub placed_on : ℕ → List (First V) → List (First V)
@@ -34,10 +34,10 @@ module _ {V : Type 0} where
     -- each object is placed on a trustee
     pub trustee : AllByRecursion (λ f. f.trustee < config.trustees) first
     -- each has holders, none of them twice
-    pub held : AllByRecursion (λ f. f.holders.items ≢ []) first
-    pub once : AllByRecursion (λ f. IsDistinct nat_eq f.holders.items) first
+    pub held : AllByRecursion (λ f. f.holders ≢ []) first
+    pub once : AllByRecursion (λ f. IsDistinct nat_eq f.holders) first
     -- each holder is a client, or a trustee of a smaller number than the object's
-    pub below : AllByRecursion (λ f. AllByRecursion (λ h. h < config.clients + f.trustee) f.holders.items) first
+    pub below : AllByRecursion (λ f. AllByRecursion (λ h. h < config.clients + f.trustee) f.holders) first
     -- no trustee begins with more objects than may be live or than there are ids
     pub room : (t : ℕ) → length (placed_on t first) ≤ config.objects
     pub ids : (t : ℕ) → length (placed_on t first) ≤ config.last_id
