@@ -1,7 +1,7 @@
 -- What holds of the slots and the log between any two steps, whatever is asked and answered.
-use Rattle.std.specs.Prelude.{◌≡◌, ◌≢◌, ℕ, ◌+◌, ◌<◌, ◌≤◌, ◌==◌, ◌⊎◌, ◌↔◌, cond, List, [], ◌∷◌, ◌++◌, length, map}
+use Rattle.std.specs.Prelude.{◌≡◌, ◌≢◌, ℕ, ◌+◌, ◌<◌, ◌≤◌, ◌==◌, cond, List, [], ◌∷◌, ◌++◌, length, map}
 use Rattle.std.specs.List.{AllByRecursion}
-use Rattle.tm_model.specs.Lists.{IsPrefix, EndsIn}
+use Rattle.tm_model.specs.Lists.{IsPrefix}
 use Rattle.tm_model.specs.Slots.{Box, Empty, Asked, Taken, Answered, Slot, Core, slot_of, MayPublish, publish, see, MayAnswer, answer, collect, first_core}
 
 -- what an entry of a log is to the slots: a request of a place was run, the answers to a batch of a place and a room left, or neither

@@ -1,5 +1,5 @@
 -- What a place holds, by what it sent and got.
-use Rattle.std.specs.Prelude.{◌≡◌, ℕ, ◌+◌, ◌-◌, ◌==◌, ◌||◌, Bool, true, false, cond, List, [], ◌∷◌, ◌++◌, length}
+use Rattle.std.specs.Prelude.{◌≡◌, ℕ, ◌+◌, ◌-◌, ◌==◌, Bool, true, false, cond, List, [], ◌∷◌, length}
 use Rattle.std.specs.List.{flat_map}
 use Rattle.tm_batch.specs.declared.message.Name.{Name}
 use Rattle.tm_batch.specs.declared.message.Request.{Request}
@@ -7,7 +7,7 @@ use Rattle.tm_batch.specs.declared.message.Request.TheVariants.{Entrust, Apply, 
 use Rattle.tm_batch.specs.declared.message.Answer.{Answer}
 use Rattle.tm_batch.specs.declared.message.Answer.TheVariants.{Entrusted, TicketsSpent, Shared}
 use Rattle.tm_batch.specs.declared.message.AnswerBatch.{AnswerBatch}
-use Rattle.tm_model.specs.State.{Work, Object, State, holds_at, place_of}
+use Rattle.tm_model.specs.State.{Work, Object, State, holds_at}
 
 -- how many of some names are of an id
 abbrev pub gifts_of : ℕ → List Name → ℕ

@@ -1,5 +1,5 @@
 -- Launched work on one object does not overlap.
-use Rattle.std.specs.Prelude.{◌≡◌, ◌≢◌, ℕ, ◌==◌, ◌⊎◌, cond, List, [], ◌∷◌, ◌++◌}
+use Rattle.std.specs.Prelude.{◌≡◌, ℕ, ◌==◌, ◌⊎◌, cond, List, [], ◌∷◌, ◌++◌}
 use Rattle.std.specs.List.{AllByRecursion}
 use Rattle.tm_seq.specs.declared.kind.Event.{Event}
 use Rattle.tm_seq.specs.declared.kind.Event.TheVariants.{Begin, Reply, NotAbove, NoObject}
@@ -8,7 +8,7 @@ use Rattle.tm_seq.specs.declared.kind.Next.TheVariants.{Ask, Done}
 use Rattle.tm_batch.specs.declared.message.Request.TheVariants.{Launch}
 use Rattle.tm_batch.specs.declared.message.Answer.TheVariants.{Launched}
 use Rattle.tm_model.specs.declared.entry.Entry.{Entry}
-use Rattle.tm_model.specs.declared.entry.Entry.TheVariants.{By, Resume, Sent}
+use Rattle.tm_model.specs.declared.entry.Entry.TheVariants.{By, Resume}
 
 -- a resume of one object: its ticket, what it was told, and what it does next
 pub record Resumption (O R T : Type 0) : Type 0 where

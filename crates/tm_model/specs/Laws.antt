@@ -10,7 +10,7 @@ use Rattle.tm_batch.specs.declared.message.Request.{Request}
 use Rattle.tm_batch.specs.declared.message.Request.TheVariants.{Bye}
 use Rattle.tm_batch.specs.declared.message.Answer.{Answer}
 use Rattle.tm_model.specs.declared.entry.Entry.{Entry}
-use Rattle.tm_model.specs.State.{Work, Object, State, Place, Setup, holds_of, total, object_of, place_of, place_count, IsHeld}
+use Rattle.tm_model.specs.State.{Object, State, total, object_of, place_of, place_count, IsHeld}
 use Rattle.tm_model.specs.Opening.{IsBuildable, opening_of}
 use Rattle.tm_model.specs.Serve.{state_after}
 use Rattle.tm_model.specs.Legal.{IsLegal}
@@ -23,7 +23,8 @@ use Rattle.tm_model.specs.Batches.{batches}
 use Rattle.tm_model.specs.Holds.{Names, has_bye, launches_in, answers_in, unfinished}
 use Rattle.tm_model.specs.Orderly.{IsOrderly, GrantsBelow, IsOfTrustee}
 use Rattle.tm_model.specs.Good.{FullCore, IsGood}
-use Rattle.tm_model.specs.Answering.{AreResumes, entries_by, added, MayGrow, MayAnswerWith, answer_with}
+use Rattle.tm_model.specs.Entries.{AreResumes, entries_by, added}
+use Rattle.tm_model.specs.Answering.{MayGrow, MayAnswerWith, answer_with}
 
 module _ {V O R T : Type 0} where
   -- an opening state is that of a trustee of a runtime that may be built

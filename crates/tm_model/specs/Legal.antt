@@ -10,7 +10,7 @@ use Rattle.tm_batch.specs.declared.message.Answer.{Answer}
 use Rattle.tm_batch.specs.declared.message.Answer.TheVariants.{Entrusted, NotEntrusted, Replied, Launched, TicketsSpent, Granted, Gone, GiftsFull, Released, Reclaimed, Shared, ByeDone}
 use Rattle.tm_model.specs.declared.entry.Entry.{Entry}
 use Rattle.tm_model.specs.declared.entry.Entry.TheVariants.{By, Resume, Sent}
-use Rattle.tm_model.specs.State.{Awaits, Start, Told, Work, Setup, Object, State, holds_of, total, place_of, place_count, ids_above, HasObject, IsHeld}
+use Rattle.tm_model.specs.State.{Awaits, Start, AskOf, Work, Setup, Object, State, holds_of, total, place_of, place_count, ids_above, HasObject, IsHeld}
 use Rattle.tm_model.specs.Serve.{value_run, value_resumed, after}
 
 module _ {V O R T : Type 0} where
@@ -65,10 +65,10 @@ module _ {V O R T : Type 0} where
 abbrev pub IsAwaited : {R : Type 0} → Setup → Awaits → Event R → Type 0
 IsAwaited setup Start Begin = Unit {0}
 IsAwaited setup Start _ = ⊥
-IsAwaited setup (Told u i) Begin = ⊥
-IsAwaited setup (Told u i) NotAbove = u ≤ setup.number
-IsAwaited setup (Told u i) NoObject = (setup.number < u) × (length (ids_above setup u) ≤ i)
-IsAwaited setup (Told u i) (Reply r) = (setup.number < u) × (i < length (ids_above setup u))
+IsAwaited setup (AskOf u i) Begin = ⊥
+IsAwaited setup (AskOf u i) NotAbove = u ≤ setup.number
+IsAwaited setup (AskOf u i) NoObject = (setup.number < u) × (length (ids_above setup u) ≤ i)
+IsAwaited setup (AskOf u i) (Reply r) = (setup.number < u) × (i < length (ids_above setup u))
 
 -- there is a first launch, and P holds of it
 abbrev pub HasFirst : {T : Type 0} → List (Work T) → (Work T → Type 0) → Type 0

@@ -9,6 +9,7 @@ pub mod Slots
 pub mod GoodSlots
 pub mod Ran
 pub mod Batches
+pub mod Entries
 pub mod Holds
 pub mod Orderly
 pub mod Good

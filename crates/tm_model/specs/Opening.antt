@@ -1,10 +1,10 @@
 -- What a runtime may be built from, and the state in which a trustee opens.
-use Rattle.std.specs.Prelude.{◌≡◌, ◌≢◌, ℕ, ◌+◌, ◌<◌, ◌≤◌, ◌==◌, nat_eq, nat_lt, Bool, false, cond, List, [], ◌∷◌, length, map, filter, count_by}
+use Rattle.std.specs.Prelude.{◌≢◌, ℕ, ◌+◌, ◌<◌, ◌≤◌, ◌==◌, nat_eq, nat_lt, Bool, cond, List, [], ◌∷◌, length, map, filter, count_by}
 use Rattle.std.specs.List.{AllByRecursion, IsDistinct, list_any, range_with_len}
 use Rattle.std.proofs.Math.ListN.{replicate}
 use Rattle.tm_batch.specs.declared.config.Config.{Config}
 use Rattle.tm_batch.specs.declared.config.First.{First}
-use Rattle.tm_model.specs.State.{Object, Place, State, no_place}
+use Rattle.tm_model.specs.State.{Object, State, no_place}
 
 module _ {V : Type 0} where
   -- whether an object of the build names a place as a holder

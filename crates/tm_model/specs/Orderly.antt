@@ -2,7 +2,7 @@
 use Rattle.std.specs.Prelude.{◌≡◌, ℕ, ◌+◌, ◌<◌, ◌≤◌, true, List, [], ◌∷◌, ◌++◌}
 use Rattle.std.specs.List.{AllByRecursion}
 use Rattle.tm_batch.specs.declared.message.Request.{Request}
-use Rattle.tm_batch.specs.declared.message.Request.TheVariants.{Entrust, Apply, Launch, Grant, Release, Reclaim, Bye}
+use Rattle.tm_batch.specs.declared.message.Request.TheVariants.{Apply, Grant, Bye}
 use Rattle.tm_batch.specs.declared.message.AnswerBatch.{AnswerBatch}
 use Rattle.tm_model.specs.State.{State}
 use Rattle.tm_model.specs.Holds.{Names, has_bye, launches_in, gave, ended_in, came}

@@ -1,5 +1,5 @@
 -- What an entry does to a state.
-use Rattle.std.specs.Prelude.{ℕ, ◌+◌, ◌-◌, ◌==◌, Bool, true, false, cond, List, [], ◌∷◌, ◌++◌, map, drop, slice_set}
+use Rattle.std.specs.Prelude.{ℕ, ◌+◌, ◌-◌, Bool, true, false, cond, List, [], ◌∷◌, ◌++◌, map, drop, slice_set}
 use Rattle.std.specs.declared.option.Option.{Option}
 use Rattle.std.specs.declared.option.Option.TheVariants.{None, Some}
 use Rattle.tm_seq.specs.Kind.{Kind}
@@ -13,7 +13,7 @@ use Rattle.tm_batch.specs.declared.message.Answer.{Answer}
 use Rattle.tm_batch.specs.declared.message.Answer.TheVariants.{Entrusted, Replied, Launched, Granted, Released, Reclaimed, ByeDone}
 use Rattle.tm_model.specs.declared.entry.Entry.{Entry}
 use Rattle.tm_model.specs.declared.entry.Entry.TheVariants.{By, Resume, Sent}
-use Rattle.tm_model.specs.State.{Start, Told, Work, Object, State, holds_of, with_holds, change, kept, without, object_of, place_of, with_place, with_live}
+use Rattle.tm_model.specs.State.{Start, AskOf, Work, Object, State, holds_of, with_holds, change, kept, without, object_of, place_of, with_place, with_live}
 
 module _ {V O R T : Type 0} where
   -- the value after an operation that gave a reply: that of `step`, or as it was for want of memory
@@ -32,7 +32,7 @@ module _ {V O R T : Type 0} where
 -- the unfinished launches after the first of them was resumed: it goes on as the task of its ask, or leaves the list
 abbrev pub works_resumed : {O R T : Type 0} → List (Work T) → Next O T R → List (Work T)
 works_resumed [] next = []
-works_resumed (w ∷ ws) (Ask u i op task) = record w { task = task; awaits = Told u i } ∷ ws
+works_resumed (w ∷ ws) (Ask u i op task) = record w { task = task; awaits = AskOf u i } ∷ ws
 works_resumed (w ∷ ws) (Done r) = ws
 
 abbrev works_in : {V T : Type 0} → Option (Object V T) → List (Work T)

@@ -1,5 +1,5 @@
 -- The state of a trustee.
-use Rattle.std.specs.Prelude.{◌≡◌, ℕ, ◌+◌, ◌≤◌, ◌==◌, Bool, false, not, cond, List, [], length, map, filter, find, sum, slice_index_or, slice_set, IsSomeAnd}
+use Rattle.std.specs.Prelude.{ℕ, ◌+◌, ◌≤◌, ◌==◌, Bool, false, not, cond, List, [], length, map, filter, find, sum, slice_index_or, slice_set, IsSomeAnd}
 use Rattle.std.specs.declared.option.Option.{Option}
 use Rattle.std.specs.declared.option.Option.TheVariants.{None, Some}
 use Rattle.tm_batch.specs.declared.message.Name.{Name}
@@ -9,7 +9,7 @@ use Rattle.tm_batch.specs.declared.message.Completion.{Completion}
 -- what launched work waits for: its begin, or what it is told of its ask of a trustee and an index
 pub data Awaits : Type 0 where
   Start : Awaits
-  Told : ℕ → ℕ → Awaits
+  AskOf : ℕ → ℕ → Awaits
 
 -- an unfinished launch: who launched it, under which ticket, the task that goes on, and what it awaits
 pub record Work (T : Type 0) : Type 0 where
