@@ -9,6 +9,7 @@ use Rattle.tm_batch.specs.declared.config.First.{First}
 use Rattle.tm_batch.specs.declared.message.Request.{Request}
 use Rattle.tm_batch.specs.declared.message.Request.TheVariants.{Bye}
 use Rattle.tm_batch.specs.declared.message.Answer.{Answer}
+use Rattle.tm_batch.specs.declared.message.AnswerBatch.{AnswerBatch}
 use Rattle.tm_model.specs.declared.entry.Entry.{Entry}
 use Rattle.tm_model.specs.State.{Object, State, total, object_of, place_of, place_count, IsHeld}
 use Rattle.tm_model.specs.Opening.{IsBuildable, opening_of}
@@ -103,7 +104,7 @@ module _ {V O R T : Type 0} where
     abbrev pub GrowingAdds : Type 0
     GrowingAdds =
         (opening : State V O R T) (log resumes : List (Entry V O R T)) (c : ℕ) (b : List (Request V O R T)) (room : ℕ)
-        (a : _) → MayGrow kind opening log resumes c b room a
+        (a : AnswerBatch V O R T) → MayGrow kind opening log resumes c b room a
         → Adds mark_of (batches kind opening) (IsLegal kind opening) c b room a log (added log resumes c b room a.answers.items)
 
     -- the first core is good
@@ -127,7 +128,7 @@ module _ {V O R T : Type 0} where
     abbrev pub AnswerKeepsGood : Type 0
     AnswerKeepsGood =
         (opening : State V O R T) (core : FullCore V O R T) (c : ℕ) (b : List (Request V O R T)) (room : ℕ)
-        (resumes : List (Entry V O R T)) (a : _)
+        (resumes : List (Entry V O R T)) (a : AnswerBatch V O R T)
         → IsOpening opening → MayAnswerWith kind opening core c b room resumes a
         → IsGood kind opening core → IsGood kind opening (answer_with c b room resumes a core)
 
