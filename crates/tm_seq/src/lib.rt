@@ -1,0 +1,15 @@
+//! Kinds of objects that one thread may entrust to another, after `Trust<T>` (Ahmad et al. 2024).
+//!
+//! A kind is a sequential object: its operations run one after another, and launched work goes on
+//! event by event. Contracts know a kind by two total functions, `step` for an operation and
+//! `advance` for a resume, and by the values of `left` and `no_memory`.
+#![tactic(auto)]
+
+mod counter;
+mod kind;
+
+pub use counter::{Counter, CounterOp, CounterReply, CounterTask};
+pub use kind::{Entrusted, Event, Next};
+
+#[cfg(test)]
+mod tests;
