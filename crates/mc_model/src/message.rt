@@ -1,7 +1,8 @@
 //! What a stream of memcached's text protocol says: commands and faults (`protocol.txt`).
 
 use crate::keys::Keys;
-use mc_item::{Bytes, Key};
+use mc_item::bytes::Bytes;
+use mc_item::key::Key;
 
 /// How a storage command stores.
 #[derive(Clone, Copy, Debug, PartialEq, Eq)]

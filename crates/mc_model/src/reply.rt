@@ -1,6 +1,6 @@
 //! What a class replies.
 
-use mc_item::Bytes;
+use mc_item::bytes::Bytes;
 
 /// The reply of a class to one operation.
 #[derive(Drop)]
