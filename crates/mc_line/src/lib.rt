@@ -1,0 +1,2 @@
+//! What one line of memcached's text protocol says.
+#![tactic(auto)]
