@@ -32,38 +32,39 @@ is_noreply token = bytes_eq token (codes "noreply")
 abbrev pub is_zero : List ℕ → Bool
 is_zero token = bytes_eq token (codes "0")
 
+-- [`noreply`] at the end of a line: whether it is there, where nothing else is
+abbrev pub quiet_of : List (List ℕ) → Option Bool
+quiet_of [] = Some false
+quiet_of (last ∷ []) = if is_noreply last then Some true else None
+quiet_of _ = None
+
 -- ---- `set` `add` `replace` `append` `prepend`: key flags exptime bytes [`noreply`]
 
--- the block that a key and numbers announce, if all of them are there
-abbrev pub announced : How → List ℕ → Option ℕ → Option ℤ → Option ℕ → Bool → Saying
-announced how key (Some flags) (Some exptime) (Some size) quiet =
+-- the block that a line announces, if all its parts are lawful
+abbrev pub announced : How → List ℕ → Option ℕ → Option ℤ → Option ℕ → Option Bool → Saying
+announced how key (Some flags) (Some exptime) (Some size) (Some quiet) =
     if is_key key
     then Awaits (record { how = how; key = key; flags = flags; exptime = exptime; size = size; quiet = quiet })
     else bad
-announced how key _ _ _ quiet = bad
+announced how key _ _ _ _ = bad
 
 -- flags are below 2 ^ 32, and the bytes are at most 2,147,483,647
-abbrev pub store : How → List ℕ → List ℕ → List ℕ → List ℕ → Bool → Saying
-store how key flags exptime size quiet =
-    announced how key (number_below (2 ^ 32) flags) (exptime_of exptime) (number_below (2 ^ 31) size) quiet
-
 abbrev pub store_row : How → List (List ℕ) → Saying
-store_row how (key ∷ flags ∷ exptime ∷ size ∷ []) = store how key flags exptime size false
-store_row how (key ∷ flags ∷ exptime ∷ size ∷ last ∷ []) = if is_noreply last then store how key flags exptime size true else bad
+store_row how (key ∷ flags ∷ exptime ∷ size ∷ end) =
+    announced how key (number_below (2 ^ 32) flags) (exptime_of exptime) (number_below (2 ^ 31) size) (quiet_of end)
 store_row how _ = bad
 
 -- ---- `cas`: key flags exptime bytes unique [`noreply`]
 
 -- a store over the item with this number, if the number is there
-abbrev pub cas : List ℕ → List ℕ → List ℕ → List ℕ → Option ℕ → Bool → Saying
-cas key flags exptime size (Some unique) quiet = store (how.Cas unique) key flags exptime size quiet
+abbrev pub cas : List ℕ → Option ℕ → Option ℤ → Option ℕ → Option ℕ → Option Bool → Saying
+cas key flags exptime size (Some unique) quiet = announced (how.Cas unique) key flags exptime size quiet
 cas key flags exptime size None quiet = bad
 
--- unique is below 2 ^ 64
+-- unique is below 2 ^ 64, and the others are as above
 abbrev pub cas_row : List (List ℕ) → Saying
-cas_row (key ∷ flags ∷ exptime ∷ size ∷ unique ∷ []) = cas key flags exptime size (number_below (2 ^ 64) unique) false
-cas_row (key ∷ flags ∷ exptime ∷ size ∷ unique ∷ last ∷ []) =
-    if is_noreply last then cas key flags exptime size (number_below (2 ^ 64) unique) true else bad
+cas_row (key ∷ flags ∷ exptime ∷ size ∷ unique ∷ end) =
+    cas key (number_below (2 ^ 32) flags) (exptime_of exptime) (number_below (2 ^ 31) size) (number_below (2 ^ 64) unique) (quiet_of end)
 cas_row _ = bad
 
 -- ---- `get` `gets`: 1 to 1,024 keys
@@ -76,63 +77,63 @@ get_row with_cas keys = if are_keys keys then asks (command.Get keys with_cas) e
 
 -- ---- `delete`: key [`0`] [`noreply`]
 
-abbrev pub delete : List ℕ → Bool → Saying
-delete key quiet = if is_key key then asks (command.Delete key quiet) else bad
+abbrev pub without_zero : List (List ℕ) → List (List ℕ)
+without_zero [] = []
+without_zero (first ∷ rest) = if is_zero first then rest else first ∷ rest
+
+abbrev pub delete : List ℕ → Option Bool → Saying
+delete key (Some quiet) = if is_key key then asks (command.Delete key quiet) else bad
+delete key None = bad
 
 abbrev pub delete_row : List (List ℕ) → Saying
-delete_row (key ∷ []) = delete key false
-delete_row (key ∷ last ∷ []) = if is_noreply last then delete key true else if is_zero last then delete key false else bad
-delete_row (key ∷ zero ∷ last ∷ []) = if is_zero zero && is_noreply last then delete key true else bad
-delete_row _ = bad
+delete_row (key ∷ end) = delete key (quiet_of (without_zero end))
+delete_row [] = bad
 
 -- ---- `incr` `decr`: key amount [`noreply`]
 
 -- a change by the amount, or the bad delta where all but the amount is lawful
-abbrev pub change : Bool → List ℕ → Option ℕ → Bool → Saying
-change up key (Some amount) quiet = if is_key key then asks (command.Change up key amount quiet) else bad
-change up key None quiet = if is_key key then fails fault.BadDelta else bad
+abbrev pub change : Bool → List ℕ → Option ℕ → Option Bool → Saying
+change up key (Some amount) (Some quiet) = if is_key key then asks (command.Change up key amount quiet) else bad
+change up key None (Some quiet) = if is_key key then fails fault.BadDelta else bad
+change up key _ None = bad
 
 -- the amount is below 2 ^ 64
 abbrev pub change_row : Bool → List (List ℕ) → Saying
-change_row up (key ∷ amount ∷ []) = change up key (number_below (2 ^ 64) amount) false
-change_row up (key ∷ amount ∷ last ∷ []) = if is_noreply last then change up key (number_below (2 ^ 64) amount) true else bad
+change_row up (key ∷ amount ∷ end) = change up key (number_below (2 ^ 64) amount) (quiet_of end)
 change_row up _ = bad
 
 -- ---- `touch`: key exptime [`noreply`]
 
-abbrev pub touch : List ℕ → Option ℤ → Bool → Saying
-touch key (Some exptime) quiet = if is_key key then asks (command.Touch key exptime quiet) else bad
-touch key None quiet = bad
+abbrev pub touch : List ℕ → Option ℤ → Option Bool → Saying
+touch key (Some exptime) (Some quiet) = if is_key key then asks (command.Touch key exptime quiet) else bad
+touch key _ _ = bad
 
 abbrev pub touch_row : List (List ℕ) → Saying
-touch_row (key ∷ exptime ∷ []) = touch key (exptime_of exptime) false
-touch_row (key ∷ exptime ∷ last ∷ []) = if is_noreply last then touch key (exptime_of exptime) true else bad
+touch_row (key ∷ exptime ∷ end) = touch key (exptime_of exptime) (quiet_of end)
 touch_row _ = bad
 
--- ---- `flush_all`: [delay] [`noreply`]; one token is the delay where it is not `noreply`
+-- ---- `flush_all`: [delay] [`noreply`]; a lone token is the delay where it is not `noreply`
 
-abbrev pub flush : Option ℕ → Bool → Saying
-flush (Some delay) quiet = asks (command.FlushAll delay quiet)
-flush None quiet = bad
+abbrev pub flush : Option ℕ → Option Bool → Saying
+flush (Some delay) (Some quiet) = asks (command.FlushAll delay quiet)
+flush _ _ = bad
 
 -- the delay is below 2 ^ 32, and 0 where there is none
 abbrev pub flush_row : List (List ℕ) → Saying
-flush_row [] = flush (Some 0) false
-flush_row (last ∷ []) = if is_noreply last then flush (Some 0) true else flush (number_below (2 ^ 32) last) false
-flush_row (delay ∷ last ∷ []) = if is_noreply last then flush (number_below (2 ^ 32) delay) true else bad
-flush_row _ = bad
+flush_row [] = asks (command.FlushAll 0 false)
+flush_row (only ∷ []) = if is_noreply only then asks (command.FlushAll 0 true) else flush (number_below (2 ^ 32) only) (Some false)
+flush_row (delay ∷ end) = flush (number_below (2 ^ 32) delay) (quiet_of end)
 
 -- ---- `verbosity`: level [`noreply`]
 
-abbrev pub verbosity : Option ℕ → Bool → Saying
-verbosity (Some level) quiet = asks (command.Verbosity quiet)
-verbosity None quiet = bad
+abbrev pub verbosity : Option ℕ → Option Bool → Saying
+verbosity (Some level) (Some quiet) = asks (command.Verbosity quiet)
+verbosity _ _ = bad
 
 -- the level is below 2 ^ 32
 abbrev pub verbosity_row : List (List ℕ) → Saying
-verbosity_row (level ∷ []) = verbosity (number_below (2 ^ 32) level) false
-verbosity_row (level ∷ last ∷ []) = if is_noreply last then verbosity (number_below (2 ^ 32) level) true else bad
-verbosity_row _ = bad
+verbosity_row (level ∷ end) = verbosity (number_below (2 ^ 32) level) (quiet_of end)
+verbosity_row [] = bad
 
 -- ---- `stats` `version` `quit`: nothing
 
