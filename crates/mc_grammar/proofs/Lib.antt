@@ -1,2 +1,7 @@
-pub mod Lines
+pub mod LineFacts
 pub mod Spellings
+pub mod Steps
+pub mod Taking
+pub mod Unfinished
+pub mod Between
+pub mod ReadFacts

@@ -7,7 +7,7 @@ use Rattle.mc_model.specs.declared.line.Saying.{Saying}
 use Rattle.mc_model.specs.declared.line.Saying.TheVariants.{Alone, Awaits}
 use Rattle.mc_model.specs.Line.{IsLine, HasNoEnd, says}
 use Rattle.mc_model.specs.Stream.{Spells, Completes, IsBlock, stored, OneSpelling, OneReading, Reads, Spelled, IsPartial, EachTextReads}
-use Rattle.mc_grammar.proofs.Lines.{same_line, line_some, ended, first_line}
+use Rattle.mc_grammar.proofs.LineFacts.{same_line, line_some, ended, first_line}
 
 -- two blocks of one size that begin alike are one
 pub same_block : (n : ℕ) (p q a b c d u v : List ℕ) → IsBlock n p a b → IsBlock n q c d → p ++ u ≡ q ++ v → (a ≡ c) × (b ≡ d) × (u ≡ v)

@@ -1,6 +1,15 @@
 //! The reader of memcached's text protocol: messages out of a stream that comes in pieces.
 #![tactic(auto)]
 
+mod blocks;
+mod ends;
+mod held;
 mod laws;
+mod lines;
+mod progress;
+mod reader;
 
+pub use held::{Filling, Front};
 pub use laws::{each_text_reads, one_reading, one_spelling};
+pub use progress::Progress;
+pub use reader::{Next, Reader};

@@ -1,5 +1,5 @@
 -- Lines.
-use Rattle.std.proofs.Common.{◌≡◌, ℕ, ◌≢◌, ◌⊎◌, List, [], ◌∷◌, ◌++◌, refl, ap, inl, inr}
+use Rattle.std.proofs.Common.{◌≡◌, ℕ, zero, suc, ◌<◌, ◌≢◌, ◌⊎◌, List, [], ◌∷◌, ◌++◌, length, get_or, take, refl, ap, inl, inr, arith}
 use Rattle.std.proofs.lemmas.Bool.{cases_eq}
 use Rattle.mc_model.specs.Line.{IsLine, HasNoEnd}
 
@@ -36,3 +36,14 @@ first_line (b ∷ bytes) = elim (cases_eq b 10) [
   | inl same ↦ inl (b ∷ [], bytes, refl, inl (same, refl))
   | inr other ↦ more_line b bytes other (first_line bytes)
 ]
+
+-- ---- by places
+
+pub none_by_place : (bytes : List ℕ) → ((k : ℕ) → k < length bytes → get_or bytes k 0 ≡ 10 → ⊥) → HasNoEnd bytes
+none_by_place [] h = tt
+none_by_place (b ∷ bytes) h = (λ e. h 0 (omega arith) e, none_by_place bytes (λ k lt e. h (suc k) (omega arith) e))
+
+pub line_by_place : (bytes : List ℕ) (k : ℕ) → k < length bytes → ((j : ℕ) → j < k → get_or bytes j 0 ≡ 10 → ⊥) → get_or bytes k 0 ≡ 10 → IsLine (take (suc k) bytes)
+line_by_place [] k lt h e = absurd (omega arith)
+line_by_place (b ∷ bytes) zero lt h e = inl (e, refl)
+line_by_place (b ∷ bytes) (suc k) lt h e = inr (h 0 (omega arith), line_by_place bytes k (omega arith) (λ j below at. h (suc j) (omega arith) at) e)
