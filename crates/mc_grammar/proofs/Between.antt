@@ -16,6 +16,7 @@ use Rattle.mc_model.specs.Stream.{Spells, Completes, stored}
 use Rattle.mc_grammar.specs.declared.progress.Progress.{Progress}
 use Rattle.mc_grammar.specs.declared.progress.Progress.TheVariants.{Line, Block, Returned, Pass, Ready}
 use Rattle.mc_grammar.specs.Progress.{Finishes, Goes, Start, IsSound, IsPassed}
+use Rattle.mc_grammar.proofs.LineFacts.{none_of_length}
 use Rattle.mc_grammar.proofs.Steps.{says_long}
 
 abbrev unknown : Message
@@ -72,10 +73,6 @@ many_unknown : (held : List ℕ) → Goes Start held Start → (k : ℕ) → Spe
 unfolding Goes many
 many_unknown held g zero = empty_line
 many_unknown held g (suc k) = (g (many k held) unknown).1 (many_unknown held g k)
-
-none_of_length : (held : List ℕ) → length held ≡ 0 → held ≡ []
-none_of_length [] e = refl
-none_of_length (b ∷ held) e = absurd (omega arith)
 
 -- bytes that lead from the start to the start are none
 pub goes_none : (held : List ℕ) → Goes Start held Start → held ≡ []

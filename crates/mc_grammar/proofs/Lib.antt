@@ -5,3 +5,5 @@ pub mod Taking
 pub mod Unfinished
 pub mod Between
 pub mod ReadFacts
+pub mod Piecewise
+pub mod Plainly

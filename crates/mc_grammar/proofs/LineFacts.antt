@@ -47,3 +47,8 @@ pub line_by_place : (bytes : List ℕ) (k : ℕ) → k < length bytes → ((j : 
 line_by_place [] k lt h e = absurd (omega arith)
 line_by_place (b ∷ bytes) zero lt h e = inl (e, refl)
 line_by_place (b ∷ bytes) (suc k) lt h e = inr (h 0 (omega arith), line_by_place bytes k (omega arith) (λ j below at. h (suc j) (omega arith) at) e)
+
+-- no bytes
+pub none_of_length : (bytes : List ℕ) → length bytes ≡ 0 → bytes ≡ []
+none_of_length [] e = refl
+none_of_length (b ∷ bytes) e = absurd (omega arith)

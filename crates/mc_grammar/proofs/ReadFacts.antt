@@ -7,6 +7,7 @@ use Rattle.mc_grammar.specs.declared.progress.Progress.{Progress}
 use Rattle.mc_grammar.specs.declared.progress.Progress.TheVariants.{Ready}
 use Rattle.mc_grammar.specs.Progress.{Goes, Start, IsUnfinished, Finishes}
 use Rattle.mc_grammar.specs.Reading.{IsRead, ReadsOn, ReadsItem, ReadsRest}
+use Rattle.mc_grammar.proofs.Spellings.{spelled_more}
 use Rattle.mc_grammar.proofs.Steps.{Goes-then, Goes-stay}
 
 pub none_read : IsRead [] [] Start
@@ -21,10 +22,6 @@ reads_on p q taken g bytes messages r = record {
   spelled = r.spelled;
   goes = Goes-then Start p q r.held taken r.goes g;
 }
-
-spelled_more : (ms : List Message) (f g : List ℕ) (m : Message) → Spelled f ms → Spells g m → Spelled (f ++ g) (ms ++ m ∷ [])
-spelled_more [] f g m s p = (g, [], ap (λ b. b ++ g) s ∙ sym (append-nil g), p, refl)
-spelled_more (y ∷ ms) f g m s p = (s.0, s.1 ++ g, ap (λ b. b ++ g) s.2 ∙ append_assoc s.0 s.1 g, s.3, spelled_more ms s.1 g m s.4 p)
 
 pub reads_item : (p : Progress) (m : Message) (q : Progress) → p ≡ Ready m → q ≡ Start → ReadsItem p m q
 unfolding ReadsItem Goes

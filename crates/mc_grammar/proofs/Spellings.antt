@@ -154,3 +154,8 @@ reads_some (suc n) bytes le = elim (front bytes) [
 
 pub each_text_reads : EachTextReads
 each_text_reads bytes = reads_some (length bytes) bytes (omega arith)
+
+-- one message more
+pub spelled_more : (ms : List Message) (f g : List ℕ) (m : Message) → Spelled f ms → Spells g m → Spelled (f ++ g) (ms ++ m ∷ [])
+spelled_more [] f g m s p = (g, [], ap (λ b. b ++ g) s ∙ sym (append-nil g), p, refl)
+spelled_more (y ∷ ms) f g m s p = (s.0, s.1 ++ g, ap (λ b. b ++ g) s.2 ∙ append_assoc s.0 s.1 g, s.3, spelled_more ms s.1 g m s.4 p)

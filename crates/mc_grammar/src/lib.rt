@@ -6,10 +6,14 @@ mod ends;
 mod held;
 mod laws;
 mod lines;
+mod pieces;
+mod plain;
 mod progress;
 mod reader;
 
 pub use held::{Filling, Front};
 pub use laws::{each_text_reads, one_reading, one_spelling};
+pub use pieces::{Reading, read_pieces};
+pub use plain::read_plainly;
 pub use progress::Progress;
 pub use reader::{Next, Reader};

@@ -15,9 +15,8 @@ returns-in_default c =
     let sound = subst IsSound c.self.view_is c.self.invariant in
     record {
       start = ((λ t. absurd (false≢true t)), λ e. absurd (c.in_default.not-Line _ (c.self.view_is ∙ e)));
-      held = λ held g.
-          (
-            (λ t. absurd (false≢true t)),
-            λ none. absurd (some_held c.args.self.now sound (λ front e. c.in_default.not-Line front (c.self.view_is ∙ e)) (subst (λ h. Goes Start h c.args.self.now) none g)),
-          );
+      held = λ held g. (
+        (λ t. absurd (false≢true t)),
+        λ none. absurd (some_held c.args.self.now sound (λ front e. c.in_default.not-Line front (c.self.view_is ∙ e)) (subst (λ h. Goes Start h c.args.self.now) none g)),
+      );
     }
