@@ -1,6 +1,7 @@
 //! What a class keeps of a key.
 
-use mc_item::{Bytes, Expiry};
+use mc_item::bytes::Bytes;
+use mc_item::expiry::Expiry;
 
 /// The item of a key.
 #[derive(Drop)]
