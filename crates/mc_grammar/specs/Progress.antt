@@ -4,7 +4,7 @@ use Rattle.mc_model.specs.declared.message.Fault.{Fault}
 use Rattle.mc_model.specs.declared.message.Fault.TheVariants.{Unknown, BadLine, BadDelta, LineTooLong, BadChunk, TooLarge}
 use Rattle.mc_model.specs.declared.message.Message.{Message}
 use Rattle.mc_model.specs.declared.message.Message.TheVariants as message
-use Rattle.mc_model.specs.Rows.{most_value}
+use Rattle.mc_model.specs.Rows.{most_length}
 use Rattle.mc_model.specs.Line.{IsLine, HasNoEnd, longest_line}
 use Rattle.mc_model.specs.Stream.{Spells, IsBlock, stored}
 use Rattle.mc_grammar.specs.declared.progress.Progress.{Progress}
@@ -32,8 +32,8 @@ IsPassed BadDelta = ⊥
 -- what a reader keeps true of itself
 abbrev pub IsSound : Progress → Type 0
 IsSound (Line front) = HasNoEnd front × (length front < longest_line)
-IsSound (Block h filling) = h.size ≤ most_value
-IsSound (Returned h value) = h.size ≤ most_value
+IsSound (Block h filling) = h.size ≤ most_length
+IsSound (Returned h value) = h.size ≤ most_length
 IsSound (Pass fault left) = IsPassed fault
 IsSound (Ready whole) = Unit {0}
 

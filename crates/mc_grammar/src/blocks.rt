@@ -7,7 +7,7 @@ ghost use Rattle.mc_grammar.specs.Progress.{IsPassed, IsSound, Takes};
 use crate::ends::end_of_line;
 use crate::held::Filling;
 use crate::progress::Progress;
-use mc_item::bytes::Bytes;
+use mc_item::Bytes;
 use mc_model::{Command, Fault, Header, Message};
 use std::alloc::{AllocError, Global};
 

@@ -1,7 +1,7 @@
 //! The bytes that a reader keeps.
 ghost use Rattle.std.specs.Prelude.{◌≡◌, ◌-◌, ◌≤◌, ◌==◌, [], ◌++◌, length, take, IfOk, OnOk, OnErr};
 
-use mc_item::bytes::Bytes;
+use mc_item::Bytes;
 use std::alloc::{AllocError, Global};
 use std::convert::From;
 use std::marker::Model;

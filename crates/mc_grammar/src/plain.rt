@@ -7,7 +7,7 @@ ghost use Rattle.mc_grammar.specs.Pieces.{IsReading};
 ghost use Rattle.mc_grammar.specs.Plain.{IsAwaited};
 
 use crate::pieces::Reading;
-use mc_item::bytes::Bytes;
+use mc_item::Bytes;
 use mc_line::saying_of;
 use mc_model::{Command, Fault, Header, Message, Saying};
 use std::alloc::{AllocError, Global};

@@ -1,7 +1,7 @@
 //! What of a message has come.
 
 use crate::held::{Filling, Front};
-use mc_item::bytes::Bytes;
+use mc_item::Bytes;
 use mc_model::{Fault, Header, Message};
 
 /// What of a message has come.

@@ -5,7 +5,7 @@ ghost use Rattle.mc_item.specs.Numbers.{number_below};
 ghost use Rattle.mc_model.specs.Commands as spec;
 ghost use Rattle.mc_model.specs.Line as line_spec;
 
-use mc_item::key::{Key, KeyRefused};
+use mc_item::{Key, KeyRefused};
 use mc_item::number::number;
 use std::alloc::{AllocError, Global};
 

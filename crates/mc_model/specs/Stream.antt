@@ -8,14 +8,14 @@ use Rattle.mc_model.specs.declared.message.Command.TheVariants.{Store}
 use Rattle.mc_model.specs.declared.message.Fault.TheVariants.{BadChunk, TooLarge}
 use Rattle.mc_model.specs.declared.message.Message.{Message}
 use Rattle.mc_model.specs.declared.message.Message.TheVariants as message
-use Rattle.mc_model.specs.Rows.{most_value}
+use Rattle.mc_model.specs.Rows.{most_length}
 use Rattle.mc_model.specs.Rendering.{crlf}
 use Rattle.mc_model.specs.Line.{IsLine, says}
 
 -- the message of a storage line, its block, and the tail after the block: too large whatever the tail, else a store where the tail is a line end alone
 abbrev pub stored : Header → List ℕ → List ℕ → Message
 stored h block tail =
-    if nat_lt most_value h.size then message.Fault (TooLarge h.quiet)
+    if nat_lt most_length h.size then message.Fault (TooLarge h.quiet)
     else if bytes_eq tail crlf then message.Command (Store h.how h.key h.flags h.exptime block h.quiet)
     else message.Fault (BadChunk h.quiet)
 

@@ -1,7 +1,6 @@
 //! What a class keeps of a key.
 
-use mc_item::bytes::Bytes;
-use mc_item::expiry::Expiry;
+use mc_item::{Bytes, Expiry};
 
 /// The item of a key.
 #[derive(Drop)]

@@ -1,7 +1,7 @@
 //! The keys of one `get`.
 ghost use Rattle.std.specs.Prelude.{◌≡◌, ◌<◌, [], ◌∷◌, ◌++◌, Some, length, slice_get, OnOk, OnErr, IsTrue, ◌↔◌};
 
-use mc_item::key::Key;
+use mc_item::Key;
 use std::alloc::{AllocError, Global};
 use std::marker::Model;
 

@@ -1,7 +1,7 @@
 //! What one line of the protocol says.
 
 use crate::message::{How, Message};
-use mc_item::key::Key;
+use mc_item::Key;
 
 /// What a storage line says before its block.
 #[derive(Drop)]

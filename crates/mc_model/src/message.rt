@@ -1,8 +1,7 @@
 //! What a stream says: the commands of memcached's `protocol.txt`, and the faults of what is no command.
 
 use crate::keys::Keys;
-use mc_item::bytes::Bytes;
-use mc_item::key::Key;
+use mc_item::{Bytes, Key};
 
 /// How a storage command stores.
 #[derive(Clone, Copy, Debug, PartialEq, Eq)]

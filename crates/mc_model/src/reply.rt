@@ -1,6 +1,6 @@
 //! What is replied to an operation.
 
-use mc_item::bytes::Bytes;
+use mc_item::Bytes;
 
 /// The reply to an operation on a key, or to a flush or a count.
 #[derive(Drop)]

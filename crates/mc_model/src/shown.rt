@@ -1,8 +1,7 @@
 //! What a client is shown.
 ghost use Rattle.std.specs.Prelude.{◌≡◌, ◌<◌, [], ◌∷◌, ◌++◌, Some, length, slice_get, OnOk, OnErr};
 
-use mc_item::bytes::Bytes;
-use mc_item::key::Key;
+use mc_item::{Bytes, Key};
 use std::alloc::{AllocError, Global};
 use std::marker::Model;
 
