@@ -1,5 +1,5 @@
 //! Owned bytes.
-ghost use Rattle.std.specs.Prelude.{◌≡◌, [], ◌++◌, ◌==◌, length, nat_eq, IfOk, OnOk, OnErr};
+ghost use Rattle.std.specs.Prelude.{◌≡◌, [], ◌++◌, ◌==◌, length, take, nat_eq, IfOk, OnOk, OnErr};
 ghost use Rattle.std.specs.Cmp.Lexicographic.{pointwise};
 ghost use Rattle.std.specs.Cmp.Rules.{comparing};
 ghost use Rattle.std.proofs.Common.{rules};
@@ -81,6 +81,21 @@ impl Bytes {
         self.inner.copy_within(0..old_length, more.len());
         self.inner.slice_mut(0..more.len()).copy_from_slice(more);
         Ok(())
+    }
+
+    /// Makes room for so many bytes more, so that an `extend` by no more of them allocates nothing.
+    /// The memory grows by doubling. An `Err` leaves it as it was.
+    pub fn reserve(&mut self, more: usize) -> Result<(), AllocError>
+        ensures { self.new ≡ self.old }
+    {
+        self.inner.reserve(more)
+    }
+
+    /// Keeps the first bytes, as many as `length` of them at most, and the memory.
+    pub fn truncate(&mut self, length: usize)
+        ensures { self.new ≡ take length self.old }
+    {
+        self.inner.truncate(length);
     }
 
     /// Takes all bytes out, and keeps the memory.

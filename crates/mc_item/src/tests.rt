@@ -18,6 +18,10 @@ fn bytes_are_put_together(rt: HostRuntime) -> Result<(), Fail> {
     bytes.prepend(b"")?;
     assert_eq!(rt; bytes.get(), b"abcd\x00\"".as_slice());
     assert_eq!(rt; bytes.len(), 6);
+    bytes.reserve(100)?;
+    bytes.extend(b"ef")?;
+    bytes.truncate(6);
+    bytes.truncate(9);
     let shown = format!(in alloc; "{bytes:?}")?;
     assert_eq!(rt; shown.as_str(), "b\"abcd\\x00\\\"\"");
     let copy = bytes.clone()?;

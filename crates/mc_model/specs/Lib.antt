@@ -6,3 +6,6 @@ pub mod Showing
 pub mod Rendering
 pub mod Plain
 pub mod Strict
+pub mod Commands
+pub mod Line
+pub mod Stream

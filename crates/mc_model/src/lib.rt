@@ -6,12 +6,14 @@
 
 mod item;
 mod keys;
+mod line;
 mod message;
 mod reply;
 mod shown;
 
 pub use item::Item;
 pub use keys::Keys;
+pub use line::{Header, Saying};
 pub use message::{Command, Fault, How, Message};
 pub use reply::ShardReply;
 pub use shown::{Said, Shown, ShownItem, ShownItems};

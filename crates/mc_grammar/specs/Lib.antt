@@ -1,0 +1,4 @@
+pub mod Progress
+pub mod Reading
+pub mod Pieces
+pub mod Plain
