@@ -1,18 +1,17 @@
 -- The plain program, by the definition.
-use Rattle.std.proofs.Common.{◌≡◌, ◌≢◌, ◌↔◌, ℕ, ◌+◌, ◌-◌, ◌<◌, ◌≤◌, Bool, eqb, List, [], ◌∷◌, ◌++◌, length, take, drop, replicate, refl, sym, ap, subst, ◌∙◌, inl, inr, arith, append_assoc}
+use Rattle.std.proofs.Common.{◌≡◌, ℕ, ◌+◌, ◌-◌, ◌<◌, ◌≤◌, Bool, eqb, List, [], ◌∷◌, ◌++◌, length, take, drop, replicate, refl, sym, ap, subst, ◌∙◌, inl, arith, append_assoc}
 use Rattle.std.proofs.Math.Seq.{take-add}
-use Rattle.std.proofs.lemmas.List.{append-nil, take-append-drop, length-take-le, length-drop, length-append, length-replicate, take_all}
+use Rattle.std.proofs.lemmas.List.{take-append-drop, length-take-le, length-drop, length-append, length-replicate, take_all}
 use Rattle.mc_model.specs.declared.line.Header.{Header}
-use Rattle.mc_model.specs.declared.line.Saying.{Saying}
-use Rattle.mc_model.specs.declared.line.Saying.TheVariants.{Alone, Awaits}
+use Rattle.mc_model.specs.declared.line.Saying.TheVariants.{Awaits}
 use Rattle.mc_model.specs.declared.message.Message.{Message}
 use Rattle.mc_model.specs.Line.{IsLine, HasNoEnd, says}
-use Rattle.mc_model.specs.Stream.{Spells, Spelled, Reads, IsPartial, Completes, IsBlock, stored}
+use Rattle.mc_model.specs.Stream.{Spells, Spelled, IsPartial, Completes, stored}
 use Rattle.mc_grammar.specs.Plain.{IsAwaited}
 use Rattle.mc_grammar.specs.Pieces.{IsReading}
 use Rattle.std.proofs.lemmas.Bool.{eqb-true, eq-eqb}
 use Rattle.mc_grammar.proofs.LineFacts.{ended, none_of_length}
-use Rattle.mc_grammar.proofs.Spellings.{part_of_line, spelled_more}
+use Rattle.mc_grammar.proofs.Spellings.{spelled_more}
 
 -- too few bytes for the block
 pub awaits_block : (h : Header) (rest : List ℕ) → length rest < h.size → IsAwaited (Awaits h) rest

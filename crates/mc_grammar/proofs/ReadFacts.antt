@@ -2,7 +2,7 @@
 use Rattle.std.proofs.Common.{◌≡◌, ℕ, List, [], ◌∷◌, ◌++◌, refl, sym, ap, subst, ◌∙◌, append_assoc}
 use Rattle.std.proofs.lemmas.List.{append-nil}
 use Rattle.mc_model.specs.declared.message.Message.{Message}
-use Rattle.mc_model.specs.Stream.{Spells, Spelled, Reads}
+use Rattle.mc_model.specs.Stream.{Spells}
 use Rattle.mc_grammar.specs.declared.progress.Progress.{Progress}
 use Rattle.mc_grammar.specs.declared.progress.Progress.TheVariants.{Ready}
 use Rattle.mc_grammar.specs.Progress.{Goes, Start, IsUnfinished, Finishes}

@@ -1,13 +1,13 @@
 -- What is not ready is a proper front of a message.
-use Rattle.std.proofs.Common.{◌≡◌, ◌≢◌, ◌⊎◌, ◌↔◌, ℕ, zero, suc, ◌+◌, ◌<◌, ◌≤◌, List, [], ◌∷◌, ◌++◌, length, take, replicate, refl, sym, ap, subst, ◌∙◌, inl, inr, arith}
-use Rattle.std.proofs.lemmas.List.{length-replicate, length-append, length-take-le, append-nil}
+use Rattle.std.proofs.Common.{◌≡◌, ◌≢◌, ◌⊎◌, ◌↔◌, ℕ, List, [], ◌∷◌, ◌++◌, length, take, replicate, refl, sym, ap, subst, inl, inr, arith}
+use Rattle.std.proofs.lemmas.List.{length-replicate, length-append, length-take-le}
 use Rattle.mc_model.specs.declared.message.Message.{Message}
 use Rattle.mc_model.specs.declared.message.Message.TheVariants as message
 use Rattle.mc_model.specs.Line.{IsLine}
 use Rattle.mc_model.specs.Stream.{IsBlock, stored}
 use Rattle.mc_grammar.specs.declared.progress.Progress.{Progress}
 use Rattle.mc_grammar.specs.declared.progress.Progress.TheVariants.{Line, Block, Returned, Pass, Ready}
-use Rattle.mc_grammar.specs.Progress.{Finishes, Goes, IsSound, IsReady, IsUnfinished, Start, Takes}
+use Rattle.mc_grammar.specs.Progress.{Finishes, Goes, IsBounded, IsSound, IsReady, IsUnfinished, Takes}
 use Rattle.mc_grammar.proofs.LineFacts.{line_some}
 use Rattle.mc_grammar.proofs.Spellings.{part_of_line}
 use Rattle.mc_grammar.proofs.Steps.{line_past, line_tail}
@@ -88,3 +88,11 @@ takes_nothing old new from n t (inr r) = omega (arith, length-take-le n from t.w
 -- no byte is taken exactly where there is none, or a whole message waits
 pub takes_exactly : (old new : Progress) (from : List ℕ) (n : ℕ) → IsSound old → Takes old from new n → (n ≡ 0) ↔ ((from ≡ []) ⊎ IsReady old)
 takes_exactly old new from n s t = ((λ e. none_taken old new from n s t e), λ w. takes_nothing old new from n t w)
+
+-- what is sound is within the limits
+pub bounded : (p : Progress) → IsSound p → IsBounded p
+bounded (Line front) s = s.1
+bounded (Block h f) s = omega (arith, s.0, s.1)
+bounded (Returned h v) s = omega (arith, s.0, s.1)
+bounded (Pass fault left) s = tt
+bounded (Ready y) s = tt

@@ -1,5 +1,5 @@
 -- What of a message has come, by what is still to come.
-use Rattle.std.specs.Prelude.{◌≡◌, ◌≢◌, ℕ, ◌<◌, ◌≤◌, List, [], ◌∷◌, ◌++◌, length, take}
+use Rattle.std.specs.Prelude.{◌≡◌, ◌≢◌, ℕ, ◌+◌, ◌<◌, ◌≤◌, List, [], ◌∷◌, ◌++◌, length, take}
 use Rattle.mc_model.specs.declared.message.Fault.{Fault}
 use Rattle.mc_model.specs.declared.message.Fault.TheVariants.{Unknown, BadLine, BadDelta, LineTooLong, BadChunk, TooLarge}
 use Rattle.mc_model.specs.declared.message.Message.{Message}
@@ -32,10 +32,18 @@ IsPassed BadDelta = ⊥
 -- what a reader keeps true of itself
 abbrev pub IsSound : Progress → Type 0
 IsSound (Line front) = HasNoEnd front × (length front < longest_line)
-IsSound (Block h filling) = h.size ≤ most_length
-IsSound (Returned h value) = h.size ≤ most_length
+IsSound (Block h filling) = (h.size ≤ most_length) × (length filling.0 + filling.1 ≡ h.size)
+IsSound (Returned h value) = (h.size ≤ most_length) × (length value ≡ h.size)
 IsSound (Pass fault left) = IsPassed fault
 IsSound (Ready whole) = Unit {0}
+
+-- what is kept of a message that is not whole, and the room for the rest of its value, are within the limits of a line and of a value
+abbrev pub IsBounded : Progress → Type 0
+IsBounded (Line front) = length front < longest_line
+IsBounded (Block h filling) = length filling.0 + filling.1 ≤ most_length
+IsBounded (Returned h value) = length value ≤ most_length
+IsBounded (Pass fault left) = Unit {0}
+IsBounded (Ready whole) = Unit {0}
 
 -- the bytes taken lead from one to the other: what completes the second completes the first after them, as the same message
 unfoldable pub Goes : Progress → List ℕ → Progress → Type 0

@@ -38,6 +38,13 @@ pub(crate) fn skip(fault: Fault, left: usize, from: &[u8]) -> (Progress, usize)
     (progress, left + taken)
 }
 
+// A block whose tail goes on: what stands on the tail's line is no command.
+fn bad_chunk(quiet: bool, from: &[u8]) -> (Progress, usize)
+    ensures { Takes (Progress.Pass (Fault.BadChunk quiet) 0) from.now result.0 result.1 }
+{
+    skip_line(Fault::BadChunk { quiet }, from)
+}
+
 // The storage command of a header and its block.
 fn store(header: Header, value: Bytes) -> Message
     ensures { result ≡ Message.Command (Command.Store header.how header.key header.flags header.exptime value header.quiet) }
@@ -72,7 +79,7 @@ pub(crate) fn after_return(header: Header, value: Bytes, from: &[u8]) -> (Progre
             if *first == b'\n' {
                 (Progress::Ready(store(header, value)), 1)
             } else {
-                let (progress, taken) = skip_line(Fault::BadChunk { quiet }, rest);
+                let (progress, taken) = bad_chunk(quiet, rest);
                 (progress, 1 + taken)
             }
         }
@@ -98,7 +105,7 @@ fn tail(header: Header, filling: Filling, from: &[u8]) -> (Progress, usize)
                     1,
                 )
             } else {
-                let (progress, taken) = skip_line(Fault::BadChunk { quiet }, rest);
+                let (progress, taken) = bad_chunk(quiet, rest);
                 (progress, 1 + taken)
             }
         }

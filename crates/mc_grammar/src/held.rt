@@ -22,7 +22,7 @@ impl Model for Front {
 
 impl Front {
     /// Nothing yet. Takes no memory.
-    pub fn new(alloc: Global) -> Front
+    pub(crate) fn new(alloc: Global) -> Front
         ensures { result ≡ [] }
     {
         Front {
@@ -31,28 +31,28 @@ impl Front {
     }
 
     /// The bytes.
-    pub fn get(&self) -> &[u8]
+    pub(crate) fn get(&self) -> &[u8]
         ensures { result.now ≡ self.now }
     {
         &self.bytes
     }
 
     /// How many bytes.
-    pub fn len(&self) -> usize
+    pub(crate) fn len(&self) -> usize
         ensures { result ≡ length self.now }
     {
         self.bytes.len()
     }
 
     /// Whether there is no byte.
-    pub fn is_empty(&self) -> bool
+    pub(crate) fn is_empty(&self) -> bool
         ensures { result ≡ (length self.now == 0) }
     {
         self.bytes.is_empty()
     }
 
     /// Puts more bytes behind these. The memory grows by doubling.
-    pub fn extend(&mut self, more: &[u8]) -> Result<(), AllocError>
+    pub(crate) fn extend(&mut self, more: &[u8]) -> Result<(), AllocError>
         ensures ok { OnOk result (self.new ≡ self.old ++ more.now) }
         ensures err { OnErr result (self.new ≡ self.old) }
     {
@@ -60,7 +60,7 @@ impl Front {
     }
 
     /// Keeps the first `length` bytes alone.
-    pub fn cut_back(&mut self, length: usize)
+    pub(crate) fn cut_back(&mut self, length: usize)
         ensures { self.new ≡ take length self.old }
     {
         self.bytes.truncate(length);
@@ -87,7 +87,7 @@ impl Model for Filling {
 
 impl Filling {
     /// An empty block that lacks `size` bytes. Takes the memory for all of them.
-    pub fn new(alloc: Global, size: usize) -> Result<Filling, AllocError>
+    pub(crate) fn new(alloc: Global, size: usize) -> Result<Filling, AllocError>
         ensures { IfOk result (λ f. f ≡ ([], size)) }
     {
         Ok(Filling {
@@ -97,14 +97,14 @@ impl Filling {
     }
 
     /// How many bytes are lacking.
-    pub fn lacking(&self) -> usize
+    pub(crate) fn lacking(&self) -> usize
         ensures { result ≡ self.now.1 }
     {
         self.lacking
     }
 
     /// Takes the next bytes. The room for them is there.
-    pub fn take(&mut self, from: &[u8])
+    pub(crate) fn take(&mut self, from: &[u8])
         requires { length from.now ≤ self.old.1 }
         ensures { self.new ≡ (self.old.0 ++ from.now, self.old.1 - length from.now) }
     {
@@ -115,7 +115,7 @@ impl Filling {
     }
 
     /// The bytes that have come, without a copy.
-    pub fn into_bytes(self) -> Bytes
+    pub(crate) fn into_bytes(self) -> Bytes
         ensures { result ≡ self.0 }
     {
         let Filling { bytes, lacking: _ } = self;

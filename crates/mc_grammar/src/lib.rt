@@ -10,6 +10,8 @@ mod pieces;
 mod plain;
 mod progress;
 mod reader;
+#[cfg(test)]
+mod tests;
 
 pub use held::{Filling, Front};
 pub use laws::{each_text_reads, one_reading, one_spelling};

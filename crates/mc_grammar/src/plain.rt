@@ -1,5 +1,5 @@
-//! The plain program: it reads a whole text, piece by piece of the definition. It is slow, and here
-//! to be compared with.
+//! The plain program: it reads a whole text, as the definition does. It looks at single bytes, wants
+//! all of them at once, and is here to be compared with.
 ghost use Rattle.std.specs.Prelude.{◌≡◌, ◌<◌, ◌≤◌, length, take, IfOk, MatchOption};
 ghost use Rattle.mc_model.specs.Line.{IsLine, HasNoEnd};
 ghost use Rattle.mc_model.specs.Stream as spec;
@@ -97,7 +97,7 @@ fn first_message(alloc: Global, text: &[u8]) -> Result<Option<(Message, usize)>,
     }
 }
 
-/// Reads a whole text by the definition. Its time may grow with the square of the text.
+/// Reads a whole text by the definition. It looks at single bytes, and keeps no limit on memory.
 pub fn read_plainly(alloc: Global, text: &[u8]) -> Result<Reading, AllocError>
     ensures { IfOk result (λ r. IsReading text.now r.messages.items r.is_whole) }
 {

@@ -1,6 +1,6 @@
 //! The reader of a stream that comes in pieces.
-ghost use Rattle.std.specs.Prelude.{◌≡◌, ℕ, ◌<◌, ◌≤◌, ◌⊎◌, ◌↔◌, [], List, length, take, IsTrue, IfOk, IfErr, OnErr};
-ghost use Rattle.mc_grammar.specs.Progress.{Goes, IsSound, IsReady, Start, Takes};
+ghost use Rattle.std.specs.Prelude.{◌≡◌, ℕ, ◌<◌, ◌≤◌, ◌⊎◌, ◌↔◌, [], List, length, take, IsTrue, IfOk, IfErr, OnOk, OnErr};
+ghost use Rattle.mc_grammar.specs.Progress.{Goes, IsBounded, IsSound, IsReady, Start, Takes};
 ghost use Rattle.mc_grammar.specs.Reading.{IsRead, ReadsOn, Comes, ReadsNext};
 
 use crate::blocks::{after_return, fill, skip};
@@ -25,7 +25,6 @@ pub enum Next {
 ///
 /// It keeps at most the bytes of one line and of one value: what is passed over, as a line that is
 /// too long or a block that is too large, is counted and not kept.
-#[derive(Drop)]
 pub struct Reader {
     alloc: Global,
     state: Progress,
@@ -40,6 +39,14 @@ impl Model for Reader {
     ghost view = { λ r. r.state };
 
     ghost invariant = { λ r. IsSound r.state };
+}
+
+// Written out, so that a caller's proof sees one call.
+impl Drop for Reader {
+    fn drop(self) {
+        let Reader { alloc: _, state } = self;
+        drop(state);
+    }
 }
 
 // What some bytes lead to, and how many of them are taken.
@@ -79,6 +86,7 @@ impl Reader {
         ensures through { IfOk result (λ n. n < length from.now → IsReady self.new) }
         // None exactly where there are none, or where a whole message was not taken yet.
         ensures takes { IfOk result (λ n. (n ≡ 0) ↔ ((from.now ≡ []) ⊎ IsReady self.old)) }
+        ensures bounded { OnOk result (IsBounded self.new) }
         ensures err { OnErr result (self.new ≡ self.old) }
     {
         let state = replace(&mut self.state, Progress::Line(Front::new(self.alloc)));

@@ -5,8 +5,8 @@ ghost use Rattle.mc_item.specs.Numbers.{number_below};
 ghost use Rattle.mc_model.specs.Commands as spec;
 ghost use Rattle.mc_model.specs.Line as line_spec;
 
-use mc_item::{Key, KeyRefused};
 use mc_item::number::number;
+use mc_item::{Key, KeyRefused};
 use std::alloc::{AllocError, Global};
 
 // The bytes of a line before its end.

@@ -10,7 +10,7 @@ pub struct Header {
     pub key: Key,
     pub flags: u32,
     pub exptime: i64,
-    /// How many bytes the block has: at most 2,147,483,647, and more than an item may have.
+    /// How many bytes the block has: at most 2,147,483,647, which may be more than a value may have.
     pub size: u32,
     /// The line ends in `noreply`.
     pub quiet: bool,

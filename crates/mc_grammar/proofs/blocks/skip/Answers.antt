@@ -1,4 +1,4 @@
-use Rattle.std.proofs.Common.{◌≡◌, ◌-◌, ◌≤◌, length, take, List, ℕ, sym, subst, arith}
+use Rattle.std.proofs.Common.{◌≡◌, ◌-◌, length, take, List, ℕ, subst, arith}
 use Rattle.std.proofs.lemmas.List.{length-take-le}
 use Rattle.mc_grammar.specs.declared.progress.Progress.TheVariants.{Pass}
 use Rattle.mc_grammar.specs.Progress.{Goes, Takes}

@@ -1,4 +1,4 @@
-use Rattle.std.proofs.Common.{arith, take}
+use Rattle.std.proofs.Common.{take}
 use Rattle.mc_grammar.proofs.Steps.{pass_line, pass_ends}
 use Rattle.mc_grammar.proofs.Taking.{takes_all}
 use Rattle.mc_grammar.proofs.blocks.skip_line.Goals as goal

@@ -16,10 +16,10 @@ returns-then-first-eq13 c =
 
 pub returns-then-first-eq10 : goal.returns-then-first-eq10
 returns-then-first-eq10 c =
-    takes_byte _ _ c.args.from.now 10 c.in-len1-up.len_at_least c.if-first-eq10.true (tail_bare c.args.header c.args.filling.0 c.args.filling.1 c.requires.whole c.requires.sound) tt tt
+    takes_byte _ _ c.args.from.now 10 c.in-len1-up.len_at_least c.if-first-eq10.true (tail_bare c.args.header c.args.filling.0 c.args.filling.1 c.requires.whole c.requires.sound.0) tt tt
 
 pub returns : goal.returns
 returns c =
     takes_tail _ (Pass (BadChunk c.args.header.quiet) 0) _ c.args.from.now _ c.in-len1-up.len_at_least
-    (goes_byte _ _ c.args.from.now _ c.in-len1-up.len_at_least refl (tail_other c.args.header c.args.filling.0 c.args.filling.1 _ c.requires.whole c.requires.sound c.if-first-eq10.false c.if-first-eq13.false))
-    c.skip_line-progress.ensures
+    (goes_byte _ _ c.args.from.now _ c.in-len1-up.len_at_least refl (tail_other c.args.header c.args.filling.0 c.args.filling.1 _ c.requires.whole c.requires.sound.0 c.if-first-eq10.false c.if-first-eq13.false))
+    c.bad_chunk-progress.ensures

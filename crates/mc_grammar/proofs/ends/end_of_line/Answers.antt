@@ -1,4 +1,4 @@
-use Rattle.std.proofs.Common.{◌≡◌, add-one, eq-eqb, arith}
+use Rattle.std.proofs.Common.{add-one, eq-eqb, arith}
 use Rattle.std.proofs.lemmas.Bool.{eqb-true}
 use Rattle.mc_grammar.proofs.LineFacts.{none_by_place, line_by_place}
 use Rattle.mc_grammar.proofs.ends.end_of_line.Goals as goal

@@ -1,4 +1,4 @@
-use Rattle.std.proofs.Common.{◌≡◌, ℕ, List, take, Bor, arith, subst}
+use Rattle.std.proofs.Common.{ℕ, List, Bor, subst}
 use Rattle.std.specs.List.{flat_map}
 use Rattle.std.proofs.lemmas.List.{take_all}
 use Rattle.mc_grammar.specs.Reading.{IsRead}

@@ -13,5 +13,5 @@ pub returns-in_ok-message-in-Awaits : goal.returns-in_ok-message-in-Awaits
 returns-in_ok-message-in-Awaits c = (
   omega (arith, c.in-Some.ensures.1, c.split_at.ensures.back_len),
   rw c.in-Awaits.is (completes_block c.in-Awaits.header c.args.rest.now c.in-Some.n c.in_ok-message-in-Awaits.message c.if-rest-size.false (rw c.split_at.ensures.back at c.in-Some.ensures.2)
-  (rw (c.split_at.ensures.front, c.split_at-in-Awaits.ensures.front, c.split_at.ensures.back) at c.in_ok-message-in-Awaits.ensures)),
+      (rw (c.split_at.ensures.front, c.split_at-in-Awaits.ensures.front, c.split_at.ensures.back) at c.in_ok-message-in-Awaits.ensures)),
 )

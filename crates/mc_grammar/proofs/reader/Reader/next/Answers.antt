@@ -1,5 +1,4 @@
 use Rattle.std.proofs.Common.{sym, ap, subst, ◌∙◌, ◌≡◌}
-use Rattle.mc_model.specs.declared.message.Message.TheVariants as message
 use Rattle.mc_grammar.specs.declared.progress.Progress.TheVariants.{Line, Ready}
 use Rattle.mc_grammar.specs.Progress.{IsSound, Start}
 use Rattle.mc_grammar.proofs.ReadFacts.{reads_item, reads_rest}

@@ -1,0 +1,5 @@
+pub mod Live
+pub mod Tree
+pub mod Steps
+pub mod Settled
+pub mod Outcomes

@@ -1,0 +1,5 @@
+use Rattle.mc_shard.proofs.sweep.note.Goals as goal
+use Rattle.mc_shard.proofs.Tree.{more_entries}
+
+pub returns-in_ok-insert-clause-more : goal.returns-in_ok-insert-clause-more
+returns-in_ok-insert-clause-more c = more_entries _ _ _ c.in_ok-insert.ensures.updates.0

@@ -1,0 +1,16 @@
+//! One class of the store: its items, and what each operation does to them.
+#![tactic(auto)]
+
+mod edits;
+mod items;
+mod kind;
+mod op;
+mod shard;
+mod sweep;
+
+pub use mc_model::{How, ShardReply};
+pub use op::{NoTask, ShardOp};
+pub use shard::Shard;
+
+#[cfg(test)]
+mod tests;

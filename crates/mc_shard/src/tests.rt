@@ -1,0 +1,314 @@
+//! Rows of memcached's commands, run on a class of number 33, and each read once.
+
+use crate::{How, Shard, ShardOp, ShardReply};
+use mc_item::{Bytes, Key};
+use std::alloc::{AllocError, Global};
+use std::test::Fail;
+use tm_seq::Entrusted;
+
+// A line `moment operation key number exptime value = reply`.
+#[derive(Clone, Copy)]
+struct Row<'a> {
+    moment: u64,
+    asks: &'a str,
+    key: &'a str,
+    number: u32,
+    exptime: i64,
+    value: &'a str,
+    want: &'a str,
+}
+
+// Each text is run on a class of its own.
+const TABLES: [&str; 13] = [
+    "\
+1700000000 append a 0 0 x = not stored\n\
+1700000000 set a 1 0 b = stored\n\
+1700000000 append a 9 9 c = stored\n\
+1700000000 prepend a 9 9 a = stored\n\
+1700000100 get a 0 0 - = 1 225 abc",
+    "\
+1700000000 set a 0 0 x = stored\n\
+1700000000 get a 0 0 - = 0 97 x\n\
+1700000000 cas-97 a 0 0 y = stored\n\
+1700000000 cas-97 a 0 0 z = exists\n\
+1700000000 cas-1 b 0 0 q = not found\n\
+1700000000 get a 0 0 - = 0 161 y\n\
+1700000000 count - 0 0 - = 1 of 2",
+    "\
+1700000000 replace a 0 0 x = not stored\n\
+1700000000 add a 0 0 y = stored\n\
+1700000000 add a 0 0 z = not stored\n\
+1700000000 get a 0 0 - = 0 97 y\n\
+1700000000 replace a 3 0 w = stored\n\
+1700000000 get a 0 0 - = 3 161 w\n\
+1700000000 delete a 0 0 - = deleted\n\
+1700000000 delete a 0 0 - = not found\n\
+1700000000 prepend a 0 0 x = not stored\n\
+1700000000 count - 0 0 - = 0 of 2",
+    "\
+1700000000 set a 0 0 x = stored\n\
+1700000000 touch a 0 50 - = touched\n\
+1700000000 touch b 0 50 - = not found\n\
+1700000049 get a 0 0 - = 0 97 x\n\
+1700000050 get a 0 0 - = missing",
+    "\
+100 set a 0 0 x = stored\n\
+100 flush - 10 0 - = flushed\n\
+105 get a 0 0 - = 0 97 x\n\
+110 get a 0 0 - = missing\n\
+110 add a 0 0 y = stored\n\
+200 get a 0 0 - = 0 161 y",
+    "\
+100 set a 0 10 x = stored\n\
+120 get a 0 0 - = missing\n\
+105 get a 0 0 - = missing\n\
+105 set a 0 10 y = stored\n\
+129 get a 0 0 - = 0 161 y\n\
+130 add a 0 0 z = stored",
+    "\
+1700000000 set a 2 60 007 = stored\n\
+1700000000 incr a 1 0 - = 8\n\
+1700000000 decr a 3 0 - = 5\n\
+1700000059 get a 0 0 - = 2 225 5\n\
+1700000060 incr a 1 0 - = not found\n\
+1700000060 count - 0 0 - = 0 of 1",
+    "\
+1700000000 set a 0 0 x = stored\n\
+1700000000 flush - 0 0 - = flushed\n\
+1700000000 get a 0 0 - = missing\n\
+1700000000 count - 0 0 - = 0 of 1",
+    "\
+100 flush - 5 0 - = flushed\n\
+100 flush - 0 0 - = flushed\n\
+100 set a 0 0 x = stored\n\
+105 get a 0 0 - = 0 97 x",
+    "\
+100 set a 0 0 x = stored\n\
+100 flush - 5 0 - = flushed\n\
+100 flush - 50 0 - = flushed\n\
+105 get a 0 0 - = 0 97 x\n\
+150 get a 0 0 - = missing",
+    "\
+1700000000 set n 0 0 18446744073709551615 = stored\n\
+1700000000 incr n 1 0 - = 0\n\
+1700000000 set n 0 0 5 = stored\n\
+1700000000 decr n 9 0 - = 0\n\
+1700000000 set n 0 0 abc = stored\n\
+1700000000 incr n 1 0 - = no number\n\
+1700000000 incr m 1 0 - = not found\n\
+1700000000 set n 0 0 18446744073709551616 = stored\n\
+1700000000 decr n 1 0 - = no number\n\
+1700000000 get n 0 0 - = 0 417 18446744073709551616",
+    "\
+1000000000 set a 0 2592000 x = stored\n\
+1000000000 set b 0 2592001 x = stored\n\
+1000000000 set c 0 -1 x = stored\n\
+1000000000 set d 0 0 x = stored\n\
+1000000000 get a 0 0 - = 0 97 x\n\
+1000000000 get b 0 0 - = missing\n\
+1000000000 get c 0 0 - = missing\n\
+1000000000 get d 0 0 - = 0 289 x\n\
+1000000000 count - 0 0 - = 2 of 4",
+    "\
+50 set a 0 -1 x = stored\n\
+50 add a 7 0 y = stored\n\
+50 touch a 0 -5 - = touched\n\
+50 get a 0 0 - = missing\n\
+9223372036854775807 set a 0 60 z = stored\n\
+0 get a 0 0 - = 0 225 z\n\
+4611686018427387904 count - 0 0 - = 1 of 3",
+];
+
+fn word<'a>(rest: &mut &'a str) -> Result<&'a str, Fail> {
+    let text = *rest;
+    let (first, others) = text.split_once(' ').ok_or("a word is missing")?;
+    *rest = others;
+    Ok(first)
+}
+
+fn row_of(line: &str) -> Result<Row<'_>, Fail> {
+    let (asked, want) = line.split_once(" = ").ok_or("no reply")?;
+    let mut rest = asked;
+    let moment = word(&mut rest)?.parse::<u64>()?;
+    let asks = word(&mut rest)?;
+    let key = word(&mut rest)?;
+    let number = word(&mut rest)?.parse::<u32>()?;
+    let exptime = word(&mut rest)?.parse::<i64>()?;
+    Ok(Row {
+        moment,
+        asks,
+        key,
+        number,
+        exptime,
+        value: rest,
+        want,
+    })
+}
+
+fn how_of(asks: &str) -> How {
+    match asks {
+        "add" => How::Add,
+        "replace" => How::Replace,
+        "append" => How::Append,
+        "prepend" => How::Prepend,
+        "cas-97" => How::Cas(97),
+        "cas-1" => How::Cas(1),
+        _ => How::Set,
+    }
+}
+
+fn key_of(alloc: Global, text: &str) -> Result<Key, Fail> {
+    Ok(Key::of(alloc, text.as_bytes())?)
+}
+
+fn store_of(alloc: Global, row: Row<'_>) -> Result<ShardOp, Fail> {
+    let value = Bytes::of(alloc, row.value.as_bytes())?;
+    Ok(ShardOp::Store {
+        how: how_of(row.asks),
+        key: key_of(alloc, row.key)?,
+        flags: row.number,
+        exptime: row.exptime,
+        value,
+        moment: row.moment,
+    })
+}
+
+fn operation_of(alloc: Global, row: Row<'_>) -> Result<ShardOp, Fail> {
+    let moment = row.moment;
+    match row.asks {
+        "count" => return Ok(ShardOp::Count { moment }),
+        "flush" => {
+            return Ok(ShardOp::Flush {
+                delay: row.number,
+                moment,
+            });
+        }
+        _ => {}
+    }
+    let key = key_of(alloc, row.key)?;
+    let exptime = row.exptime;
+    let by = u64::from(row.number);
+    Ok(match row.asks {
+        "get" => ShardOp::Get { key, moment },
+        "delete" => ShardOp::Delete { key, moment },
+        "touch" => ShardOp::Touch {
+            key,
+            exptime,
+            moment,
+        },
+        "incr" | "decr" => ShardOp::Change {
+            up: row.asks == "incr",
+            key,
+            by,
+            moment,
+        },
+        _ => return store_of(alloc, row),
+    })
+}
+
+fn plain(reply: &ShardReply) -> &'static str {
+    match reply {
+        ShardReply::Stored => "stored",
+        ShardReply::NotStored => "not stored",
+        ShardReply::Exists => "exists",
+        ShardReply::NotFound => "not found",
+        ShardReply::Deleted => "deleted",
+        ShardReply::Touched => "touched",
+        ShardReply::Flushed => "flushed",
+        ShardReply::Missing => "missing",
+        ShardReply::NonNumeric => "no number",
+        ShardReply::TooLarge => "too large",
+        ShardReply::OutOfCas => "out of cas",
+        _ => "no memory",
+    }
+}
+
+fn words(alloc: Global, reply: &ShardReply) -> Result<String, AllocError> {
+    match reply {
+        ShardReply::Item { flags, cas, value } => {
+            format!(in alloc; "{flags} {cas} {}", value.get().escape_ascii())
+        }
+        ShardReply::Number(number) => format!(in alloc; "{number}"),
+        ShardReply::Counts { held, stored } => format!(in alloc; "{held} of {stored}"),
+        _ => String::from_str(alloc, plain(reply)),
+    }
+}
+
+// What any kind with these operations replies to a line, and what it is to reply.
+fn said<S: Entrusted<Op = ShardOp, Reply = ShardReply>>(
+    alloc: Global,
+    value: &mut S,
+    line: &str,
+) -> Result<String, Fail> {
+    let reply = value.run(operation_of(alloc, row_of(line)?)?);
+    Ok(words(alloc, &reply)?)
+}
+
+#[test]
+fn rows(rt: HostRuntime) -> Result<(), Fail> {
+    let alloc = rt.alloc();
+    for table in TABLES {
+        let mut shard = Shard::new(alloc, 33, 0)?;
+        for line in table.lines() {
+            let reply = said(alloc, &mut shard, line)?;
+            assert_eq!(rt; reply.as_str(), row_of(line)?.want, "{line}");
+        }
+    }
+    Ok(())
+}
+
+// A store of so many bytes of `x` in the key `a`.
+fn large(alloc: Global, how: How, length: usize) -> Result<ShardOp, Fail> {
+    Ok(ShardOp::Store {
+        how,
+        key: key_of(alloc, "a")?,
+        flags: 0,
+        exptime: 0,
+        value: Bytes::from(vec![in alloc; b'x'; length]?),
+        moment: 1,
+    })
+}
+
+#[test]
+fn limits(rt: HostRuntime) -> Result<(), Fail> {
+    let alloc = rt.alloc();
+    let mut shard = Shard::new(alloc, 33, (1 << 58) - 2)?;
+    let last = "5 set a 7 0 x = stored\n5 set a 0 0 y = out of cas\n5 set b 0 0 y = out of cas\n\
+        5 get a 0 0 - = 7 18446744073709551585 x";
+    for line in last.lines() {
+        let reply = said(alloc, &mut shard, line)?;
+        assert_eq!(rt; reply.as_str(), row_of(line)?.want, "{line}");
+    }
+    let mut shard = Shard::new(alloc, 0, 0)?;
+    for (how, length, want) in [
+        (How::Set, 1_048_577, "too large"),
+        (How::Set, 1_048_576, "stored"),
+        (How::Append, 1, "too large"),
+        (How::Prepend, 1, "too large"),
+    ] {
+        let reply = shard.run(large(alloc, how, length)?);
+        assert_eq!(rt; plain(&reply), want);
+    }
+    assert_eq!(rt; shard.held(), 1);
+    Ok(())
+}
+
+#[test]
+fn reads(rt: HostRuntime) -> Result<(), Fail> {
+    let alloc = rt.alloc();
+    let mut shard = Shard::new(alloc, 33, 5)?;
+    let asked = "1 set a 0 0 x = stored\n1 set b 0 -1 y = stored\n1 touch a 0 60 - = touched";
+    for line in asked.lines() {
+        said(alloc, &mut shard, line)?;
+    }
+    let a = key_of(alloc, "a")?;
+    let b = key_of(alloc, "b")?;
+    assert_eq!(rt; shard.value_of(&a), Some(b"x".as_slice()));
+    assert_eq!(rt; shard.value_of(&b), None);
+    assert_eq!(rt; (shard.held(), shard.stored(), shard.changes()), (1, 2, 7));
+    assert_eq!(rt; shard.pending(), None);
+    said(alloc, &mut shard, "4 flush - 3 0 - = flushed")?;
+    assert_eq!(rt; shard.pending(), Some(7));
+    assert_eq!(rt; plain(&Shard::no_memory()), "no memory");
+    Ok(())
+}

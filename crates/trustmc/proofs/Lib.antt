@@ -1,0 +1,5 @@
+pub mod SlotFacts
+pub mod InputFacts
+pub mod AnswerFacts
+pub mod Simulation
+pub mod Serving
