@@ -160,28 +160,25 @@ fn other_words_are_bad(rt: HostRuntime) -> Result<(), Fail> {
     Ok(())
 }
 
-// `get k` and a line end again and again, and then one command more, so that the input has this many bytes.
-fn long_input(alloc: Global, length: usize) -> Result<Vec<u8>, AllocError> {
-    let mut input = Vec::with_capacity(alloc, length)?;
-    while input.len() + 14 <= length {
+// As many commands as leave nine bytes to the most an input may have, and then this one.
+fn long_input(alloc: Global, last: &[u8]) -> Result<Vec<u8>, AllocError> {
+    let mut input = Vec::with_capacity(alloc, 65_537)?;
+    for _ in 0..9_361 {
         input.extend_from_slice(b"get k\r\n")?;
     }
-    input.extend_from_slice(b"get ")?;
-    while input.len() + 2 < length {
-        input.push(b'k')?;
-    }
-    input.extend_from_slice(b"\r\n")?;
+    input.extend_from_slice(last)?;
     Ok(input)
 }
 
 #[test]
 fn the_input_has_a_limit(rt: HostRuntime) -> Result<(), Fail> {
     let alloc = rt.alloc();
-    let most = long_input(alloc, 65_536)?;
+    let most = long_input(alloc, b"get kkk\r\n")?;
+    assert_eq!(rt; most.len(), 65_536);
     let (written, status) = run(alloc, &most, Vec::new(alloc), Vec::new(alloc))?;
     assert_eq!(rt; status, Status::Ended);
     assert_eq!(rt; written.len(), 9_362 * b"END\r\n".len());
-    let more = long_input(alloc, 65_537)?;
+    let more = long_input(alloc, b"get kkkk\r\n")?;
     assert!(rt; shows(alloc, &more, Vec::new(alloc), b"", Status::NotBuilt)?);
     Ok(())
 }
