@@ -1,0 +1,23 @@
+//! The slots between the clients and a trustee: the laws of their steps, and a machine that runs them on numbers.
+#![tactic(auto)]
+
+mod cell;
+mod cells;
+mod kind_laws;
+mod laws;
+mod machine;
+mod step;
+
+pub use kind_laws::{
+    batches_have_all_answers, collect_keeps_good, first_is_good, growing_adds, legal_logs_join,
+    publish_keeps_good, requests_are_numbered, see_keeps_good,
+};
+pub use laws::{
+    SlotLog, answer_keeps_slots, collect_keeps_slots, first_slots_are_good, publish_keeps_slots,
+    see_keeps_slots, steps_keep_slots,
+};
+pub use machine::Core;
+pub use step::{Step, StepRefused};
+
+#[cfg(test)]
+mod tests;

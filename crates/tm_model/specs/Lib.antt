@@ -1,0 +1,17 @@
+pub mod Lists
+pub mod State
+pub mod Opening
+pub mod Serve
+pub mod Legal
+pub mod History
+pub mod Latched
+pub mod Slots
+pub mod GoodSlots
+pub mod Ran
+pub mod Batches
+pub mod Entries
+pub mod Holds
+pub mod Orderly
+pub mod Good
+pub mod Answering
+pub mod Laws
