@@ -1,11 +1,11 @@
 -- Each step keeps the slots good.
-use Rattle.std.proofs.Common.{◌≡◌, ◌≢◌, ℕ, ◌+◌, ◌<◌, ◌≤◌, Bool, true, false, not, List, [], ◌∷◌, ◌++◌, length, slice_index_or, slice_set, inl, inr, refl, sym, ◌∙◌, ap, subst, arith, get_or-set_same, get_or-set_other, add-zero, zero-add, eq-eqb, length-set, length-append, append_assoc, append-nil}
+use Rattle.std.proofs.Common.{◌≡◌, ◌≢◌, ℕ, ◌<◌, Bool, true, false, not, List, [], ◌∷◌, ◌++◌, length, slice_index_or, slice_set, inl, inr, refl, sym, ◌∙◌, ap, subst, arith, get_or-set_same, get_or-set_other, length-set, append_assoc}
 use Rattle.std.proofs.Math.ListN.{length-replicate, get_or-replicate}
 use Rattle.std.proofs.lemmas.Bool.{cases_eq}
-use Rattle.tm_model.specs.Slots.{Box, Empty, Asked, Taken, Answered, Looks, Slot, no_slot, slot_of, published, taken, answered, collected, looked, is_asked, is_answered}
-use Rattle.tm_model.specs.GoodSlots.{Mark, Ran, Left, Other, IsOf, IsRunOf, ran_by, left_by, IsSettled, IsLastBehind, Agrees, Reached, IsCutAt, HasSeen, Shows, IsLate, IsGoodSlot, Adds, left_before, FirstSlotsAreGood, PublishKeepsSlots, SeeKeepsSlots, AnswerKeepsSlots, CollectKeepsSlots}
-use Rattle.tm_core.proofs.Lists.{prefix_more, prefix_length, split}
-use Rattle.tm_core.proofs.Marks.{AreNotOf, ran-append, left-append, settled-append, settled_behind, ran_none, left_none, settled_none, not_of-append, not_of_at, none_not_of, batch_ran, batch_left, batch_settled, batch_last, batch_not_of}
+use Rattle.tm_model.specs.Slots.{Box, Empty, Asked, Taken, Answered, Looks, Slot, no_slot, slot_of, published, taken, collected, looked, is_asked, is_answered}
+use Rattle.tm_model.specs.GoodSlots.{Mark, Left, Agrees, Reached, IsCutAt, HasSeen, Shows, IsLate, IsGoodSlot, FirstSlotsAreGood, PublishKeepsSlots, SeeKeepsSlots, CollectKeepsSlots}
+use Rattle.tm_core.proofs.Lists.{prefix_length}
+use Rattle.tm_core.proofs.Marks.{batch_last}
 
 not_equal : (a b : Bool) → a ≡ b → not a ≢ b
 not_equal true true e h = cc

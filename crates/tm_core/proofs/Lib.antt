@@ -1,6 +1,7 @@
 pub mod Accounts
 pub mod AllAnswers
 pub mod AnswerKeeps
+pub mod Balance
 pub mod First
 pub mod Joins
 pub mod Keeps

@@ -1,23 +1,20 @@
 -- In the state that a legal log leaves, ids rise and each object has holds for all places.
-use Rattle.std.proofs.Common.{◌≡◌, ◌≢◌, ℕ, suc, ◌+◌, ◌<◌, ◌≤◌, true, false, not, List, [], ◌∷◌, ◌++◌, length, map, slice_index_or, slice_set, inl, inr, refl, sym, ◌∙◌, ap, subst, arith, length-set}
-use Rattle.std.specs.Prelude.{◌==◌}
-use Rattle.std.specs.List.{range_with_len}
+use Rattle.std.proofs.Common.{◌≡◌, ℕ, suc, ◌+◌, List, [], ◌∷◌, length, map, refl, ◌∙◌, subst, arith, length-set}
 use Rattle.std.proofs.lemmas.List.{length-map}
 use Rattle.std.proofs.lemmas.List.FromFn.{length-map-range_with_len}
-use Rattle.std.proofs.Math.ListN.{replicate, length-replicate}
+use Rattle.std.proofs.Math.ListN.{length-replicate}
 use Rattle.tm_seq.specs.Kind.{Kind}
-use Rattle.tm_seq.specs.declared.kind.Event.{Event}
 use Rattle.tm_seq.specs.declared.kind.Next.{Next}
-use Rattle.tm_seq.specs.declared.kind.Next.TheVariants.{Ask, Done}
+use Rattle.tm_seq.specs.declared.kind.Next.TheVariants.{Done}
 use Rattle.tm_batch.specs.declared.config.First.{First}
 use Rattle.tm_batch.specs.declared.message.Request.{Request}
 use Rattle.tm_batch.specs.declared.message.Request.TheVariants.{Entrust, Apply, Launch, Grant, Release, Reclaim, Bye}
 use Rattle.tm_batch.specs.declared.message.Answer.{Answer}
-use Rattle.tm_batch.specs.declared.message.Answer.TheVariants.{Entrusted, NotEntrusted, Replied, Launched, TicketsSpent, Granted, Gone, GiftsFull, Released, Reclaimed, Shared, ByeDone}
+use Rattle.tm_batch.specs.declared.message.Answer.TheVariants.{Entrusted, Replied, Launched, Granted, Released, Reclaimed, ByeDone}
 use Rattle.tm_model.specs.declared.entry.Entry.{Entry}
 use Rattle.tm_model.specs.declared.entry.Entry.TheVariants.{By, Resume, Sent}
-use Rattle.tm_model.specs.State.{Work, Object, State, place_count, total, object_of}
-use Rattle.tm_model.specs.Opening.{opening_of, opened, placed_on}
+use Rattle.tm_model.specs.State.{Work, State, place_count, object_of}
+use Rattle.tm_model.specs.Opening.{opened, placed_on}
 use Rattle.tm_model.specs.Serve.{served, completed, works_in, after, state_after}
 use Rattle.tm_model.specs.Legal.{Serves, MayCome, IsLegal}
 use Rattle.tm_model.specs.Laws.{IsOpening}

@@ -1,11 +1,11 @@
 -- Live objects with ids that rise, and the holds of a place on an id.
-use Rattle.std.proofs.Common.{◌≡◌, ◌≢◌, ℕ, suc, ◌+◌, ◌<◌, ◌≤◌, Bool, true, false, not, cond, List, [], ◌∷◌, ◌++◌, length, map, filter, find, slice_index_or, slice_set, sum, get_or-set_same, get_or-set_other, inl, inr, refl, sym, ◌∙◌, ap, subst, arith, eq-eqb, ne_eqb}
+use Rattle.std.proofs.Common.{◌≡◌, ◌≢◌, ℕ, ◌+◌, ◌<◌, ◌≤◌, Bool, true, false, cond, List, [], ◌∷◌, ◌++◌, length, map, filter, slice_index_or, slice_set, sum, get_or-set_same, get_or-set_other, inl, inr, refl, sym, ◌∙◌, ap, arith, eq-eqb, ne_eqb}
 use Rattle.std.specs.Prelude.{◌==◌}
 use Rattle.std.specs.declared.option.Option.TheVariants.{Some}
 use Rattle.std.proofs.lemmas.Bool.{cases_eq, cases_lt}
 use Rattle.std.proofs.lemmas.List.{get_or_past, set_past}
 use Rattle.std.proofs.lemmas.List.Sums.{get_or-le-sum_by}
-use Rattle.tm_model.specs.State.{Object, State, holds_of, with_holds, total, change, kept, without, object_of, holds_in}
+use Rattle.tm_model.specs.State.{Object, holds_of, with_holds, total, change, kept, object_of, holds_in}
 
 cond_none : (t : Bool) (n : ℕ) → n ≡ 0 → cond t n 0 ≡ 0
 cond_none true n e = e

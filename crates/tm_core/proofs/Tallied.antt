@@ -1,5 +1,5 @@
 -- What the slots and the tallies of a log say of a place, and how an answer keeps the core good where the longer log is tallied.
-use Rattle.std.proofs.Common.{◌≡◌, ◌≢◌, ℕ, ◌+◌, ◌<◌, ◌≤◌, true, List, [], ◌∷◌, ◌++◌, length, slice_index_or, slice_set, inl, inr, refl, sym, ◌∙◌, ap, subst, arith, get_or-set_same, get_or-set_other, length-set, append_assoc, append-nil, length-append}
+use Rattle.std.proofs.Common.{◌≡◌, ◌≢◌, ℕ, ◌+◌, ◌<◌, ◌≤◌, true, List, [], ◌∷◌, ◌++◌, length, slice_index_or, slice_set, inl, inr, sym, ◌∙◌, ap, subst, arith, get_or-set_same, get_or-set_other, length-set, append_assoc, append-nil, length-append}
 use Rattle.std.proofs.lemmas.Bool.{cases_eq}
 use Rattle.tm_seq.specs.Kind.{Kind}
 use Rattle.tm_batch.specs.declared.message.Request.{Request}
@@ -10,9 +10,9 @@ use Rattle.tm_model.specs.declared.entry.Entry.TheVariants.{Sent}
 use Rattle.tm_model.specs.State.{State, place_of, holds_at}
 use Rattle.tm_model.specs.Serve.{state_after}
 use Rattle.tm_model.specs.Legal.{IsLegal}
-use Rattle.tm_model.specs.Slots.{Box, Empty, Asked, Taken, Answered, no_slot, slot_of, answered as after_answer}
+use Rattle.tm_model.specs.Slots.{Empty, Asked, Taken, Answered, no_slot, slot_of, answered as after_answer}
 use Rattle.tm_model.specs.GoodSlots.{Agrees, Reached, HasSeen, IsGoodSlot}
-use Rattle.tm_model.specs.Ran.{mark_of, ran, answered, waiting_after}
+use Rattle.tm_model.specs.Ran.{mark_of, ran, waiting_after}
 use Rattle.tm_model.specs.Batches.{batches}
 use Rattle.tm_model.specs.Holds.{has_bye, launches_in, gave, gifts_of, answers_in, ended_in, came, unfinished}
 use Rattle.tm_model.specs.Good.{FullBox, FullSlot, FullCore, unserved, got_with, IsOutInOrder, IsAccounted, IsGood}
