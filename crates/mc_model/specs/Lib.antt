@@ -9,3 +9,4 @@ pub mod Strict
 pub mod Commands
 pub mod Line
 pub mod Stream
+pub mod Quits

@@ -1,0 +1,4 @@
+pub mod Classes
+pub mod Replies
+pub mod Standing
+pub mod Laws
