@@ -23,7 +23,8 @@ use Rattle.tm_model.specs.Holds.{gave, brought, gifts_of}
 use Rattle.tm_core.proofs.Balance.{sum_granted, sum_released, sum_reclaimed, sum_appended}
 use Rattle.tm_core.proofs.Launches.{completed_live}
 use Rattle.tm_core.proofs.Ordered.{IsOrdered}
-use Rattle.tm_core.proofs.Places.{cond_same, cond_plus, cond_swap, one_of, two_of, place_kept}
+use Rattle.tm_core.proofs.Choices.{cond_same, cond_plus, cond_swap, one_of, two_of}
+use Rattle.tm_core.proofs.Places.{place_kept}
 use Rattle.tm_core.proofs.Rising.{holds_sum, sum_change, sum_kept, sum_closed_other}
 use Rattle.tm_core.proofs.Tallies.{gifts_of-append}
 
@@ -46,8 +47,8 @@ new_holds places c d lt =
     ]
 
 module _ {V O R T : Type 0} where
-  -- from a state to another, place c gives so many holds on each id away and so many come to it, and what else it has goes
-  -- from its holds to the gifts that wait for it or back; it stays open or closed, and no gift comes where it is closed
+  -- From a state to another, what place c holds, less the gifts that wait for it, loses what it gives away and gains what comes to it.
+  -- It stays open or closed, and no gift comes where it is closed.
   pub record Gives (c : ℕ) (s t : State V O R T) (given comes : ℕ → ℕ) : Type 0 where
     pub holds : (id : ℕ) → holds_sum c id t.live + given id + gifts_of id (place_of s c).gifts
         ≡ holds_sum c id s.live + comes id + gifts_of id (place_of t c).gifts

@@ -17,7 +17,8 @@ use Rattle.tm_model.specs.Legal.{Serves, MayCome, HasFirst, IsAwaited}
 use Rattle.tm_model.specs.Holds.{launches_in, spent_in, works_of, unfinished}
 use Rattle.tm_core.proofs.Balance.{one_hold}
 use Rattle.tm_core.proofs.Ordered.{IsOrdered}
-use Rattle.tm_core.proofs.Places.{cond_same, one_of, two_of, place_kept}
+use Rattle.tm_core.proofs.Choices.{cond_same, one_of, two_of}
+use Rattle.tm_core.proofs.Places.{place_kept}
 use Rattle.tm_core.proofs.Unfinished.{works_of-append, no_works, unfinished-append, unfinished_change, unfinished_map, unfinished_kept, unfinished_changed, unfinished_without}
 
 module _ {V O R T : Type 0} where

@@ -2,13 +2,16 @@ pub mod Accounts
 pub mod AllAnswers
 pub mod AnswerKeeps
 pub mod Balance
+pub mod Choices
 pub mod First
-pub mod Flows
 pub mod Gives
+pub mod HoldLog
 pub mod Joins
 pub mod Keeps
+pub mod LaunchLog
 pub mod Launches
 pub mod Lists
+pub mod LogTallied
 pub mod Marks
 pub mod Newly
 pub mod NumberLogs
@@ -18,8 +21,7 @@ pub mod Places
 pub mod Rising
 pub mod Runs
 pub mod Showing
-pub mod Tallies
 pub mod Tallied
-pub mod Tallying
+pub mod Tallies
 pub mod Telling
 pub mod Unfinished

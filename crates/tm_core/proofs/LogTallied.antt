@@ -15,7 +15,8 @@ use Rattle.tm_model.specs.Entries.{added}
 use Rattle.tm_model.specs.Laws.{IsOpening, AnswerKeepsGood}
 use Rattle.tm_core.proofs.AllAnswers.{batches_have_all_answers, settled_none_waits}
 use Rattle.tm_core.proofs.First.{opening_unfinished}
-use Rattle.tm_core.proofs.Flows.{log_launches, log_holds}
+use Rattle.tm_core.proofs.HoldLog.{log_holds}
+use Rattle.tm_core.proofs.LaunchLog.{log_launches}
 use Rattle.tm_core.proofs.Numbering.{opening_place}
 use Rattle.tm_core.proofs.Ordered.{opening_ordered, log_ordered}
 use Rattle.tm_core.proofs.Rising.{holds_are_sum}

@@ -1,4 +1,4 @@
--- What a legal log does to the launches and holds of a place, from any state on.
+-- What a legal log does to the holds of a place and to the gifts that wait for it, from any state on.
 use Rattle.std.proofs.Common.{◌≡◌, ◌≢◌, ℕ, ◌+◌, ◌<◌, ◌⊎◌, true, false, cond, List, [], ◌∷◌, ◌++◌, length, take, inl, inr, refl, sym, ◌∙◌, ap, subst, arith, eq-eqb, ne_eqb, zero-add, get_or-set_same}
 use Rattle.std.specs.Prelude.{◌==◌}
 use Rattle.std.proofs.Math.Seq.{take-nil}
@@ -8,90 +8,23 @@ use Rattle.tm_batch.specs.declared.message.Request.{Request}
 use Rattle.tm_batch.specs.declared.message.Request.TheVariants.{Entrust, Apply, Launch, Grant, Release, Reclaim, Bye}
 use Rattle.tm_batch.specs.declared.message.Answer.{Answer}
 use Rattle.tm_batch.specs.declared.message.AnswerBatch.{AnswerBatch}
-use Rattle.tm_batch.specs.declared.message.Answer.TheVariants.{Entrusted, NotEntrusted, Replied, Launched, TicketsSpent, Granted, Gone, GiftsFull, Released, Reclaimed, Shared, ByeDone}
+use Rattle.tm_batch.specs.declared.message.Answer.TheVariants.{ByeDone}
 use Rattle.tm_model.specs.declared.entry.Entry.{Entry}
 use Rattle.tm_model.specs.declared.entry.Entry.TheVariants.{By, Resume, Sent}
 use Rattle.tm_model.specs.State.{State, no_place, place_of}
 use Rattle.tm_model.specs.Serve.{served, counted, after, state_after}
 use Rattle.tm_model.specs.Legal.{Serves, IsLegal}
-use Rattle.tm_model.specs.Ran.{ran, answered, waiting_after}
+use Rattle.tm_model.specs.Ran.{ran, answered}
 use Rattle.tm_model.specs.Batches.{leaving, batches_from}
-use Rattle.tm_model.specs.Holds.{has_bye, launches_in, gave, brought, brought_by, spent_in, gifts_in, gifts_of, ended_in, unfinished}
+use Rattle.tm_model.specs.Holds.{has_bye, gave, brought, brought_by, gifts_in, gifts_of}
 use Rattle.tm_core.proofs.Gives.{Gives, by_gives, sent_gives, resume_gives}
-use Rattle.tm_core.proofs.Launches.{by_launches, sent_launches, resume_launches}
 use Rattle.tm_core.proofs.Ordered.{IsOrdered, after_ordered}
-use Rattle.tm_core.proofs.Places.{cond_same, place_kept}
+use Rattle.tm_core.proofs.Choices.{cond_same}
+use Rattle.tm_core.proofs.Places.{place_kept}
 use Rattle.tm_core.proofs.Rising.{holds_sum, sum_kept, sum_closed}
-use Rattle.tm_core.proofs.Tallies.{gave-append, launches_in-append, gifts_of-append}
+use Rattle.tm_core.proofs.Tallies.{gave-append, gifts_of-append}
 
 module _ {V O R T : Type 0} where
-  spent_in-append : (xs ys : List (Answer V O R T)) → spent_in (xs ++ ys) ≡ spent_in xs + spent_in ys
-  spent_in-append [] ys = omega arith
-  spent_in-append (TicketsSpent task ∷ xs) ys = let more = spent_in-append xs ys in omega (arith, more)
-  spent_in-append (Entrusted name ∷ xs) ys = spent_in-append xs ys
-  spent_in-append (NotEntrusted refusal v ∷ xs) ys = spent_in-append xs ys
-  spent_in-append (Replied r ∷ xs) ys = spent_in-append xs ys
-  spent_in-append (Launched ticket ∷ xs) ys = spent_in-append xs ys
-  spent_in-append (Granted ∷ xs) ys = spent_in-append xs ys
-  spent_in-append (Gone ∷ xs) ys = spent_in-append xs ys
-  spent_in-append (GiftsFull ∷ xs) ys = spent_in-append xs ys
-  spent_in-append (Released ∷ xs) ys = spent_in-append xs ys
-  spent_in-append (Reclaimed v ∷ xs) ys = spent_in-append xs ys
-  spent_in-append (Shared ∷ xs) ys = spent_in-append xs ys
-  spent_in-append (ByeDone ∷ xs) ys = spent_in-append xs ys
-
-  -- the launches of a place that have not ended
-  abbrev pub open_launches : State V O R T → ℕ → ℕ
-  open_launches s c = unfinished c s.live + length (place_of s c).ready
-
-  module _ (kind : Kind V O R T) (n c : ℕ) (lt : c < n) where
-    -- launches that a log runs have not ended, or end by what leaves or by answers that wait
-    pub log_launches :
-        (k : ℕ) (w : List (Answer V O R T)) (s : State V O R T) (es : List (Entry V O R T)) → IsOrdered n s → IsLegal kind s es
-        → launches_in (ran c es) + open_launches s c + spent_in w
-        ≡ open_launches (state_after kind s es) c + ended_in (batches_from kind c k w s es) + spent_in (waiting_after c w es)
-    log_launches k w s [] h legal = omega arith
-    log_launches k w s (By d j q a ∷ es) h legal =
-        let s' = after kind s (By d j q a) in
-        let h' = after_ordered kind n s (By d j q a) legal.0 h in
-        let one = by_launches kind n c d s h j q a legal.0.2 in
-        let more = log_launches (k + 1) (cond (d == c) (w ++ a ∷ []) w) s' es h' legal.1 in
-        let ran_is = launches_in-append (q ∷ []) (ran c es) in
-        let waits = spent_in-append w (a ∷ []) in
-        elim (d == c) as
-        (λ t. cond t (launches_in (q ∷ [])) 0 + open_launches s c ≡ open_launches s' c + cond t (spent_in (a ∷ [])) 0
-        → launches_in (ran c es) + open_launches s' c + spent_in (cond t (w ++ a ∷ []) w)
-        ≡ open_launches (state_after kind s' es) c + ended_in (batches_from kind c (k + 1) (cond t (w ++ a ∷ []) w) s' es)
-        + spent_in (waiting_after c (cond t (w ++ a ∷ []) w) es)
-        → launches_in (cond t (q ∷ ran c es) (ran c es)) + open_launches s c + spent_in w
-        ≡ open_launches (state_after kind s' es) c + ended_in (batches_from kind c (k + 1) (cond t (w ++ a ∷ []) w) s' es)
-        + spent_in (waiting_after c (cond t (w ++ a ∷ []) w) es)) [
-          | true ↦ λ one more. omega (arith, one, more, ran_is, waits)
-          | false ↦ λ one more. omega (arith, one, more)
-        ] one more
-    log_launches k w s (Resume id ticket event next ∷ es) h legal =
-        let h' = after_ordered kind n s (Resume id ticket event next) legal.0 h in
-        let one = resume_launches kind n c s id ticket event next h lt legal.0 in
-        let more = log_launches (k + 1) w (after kind s (Resume id ticket event next)) es h' legal.1 in
-        omega (arith, one, more)
-    log_launches k w s (Sent d room ∷ es) h legal =
-        let s' = after kind s (Sent d room) in
-        let h' = after_ordered kind n s (Sent d room) legal.0 h in
-        let one = sent_launches c d room s (omega (arith, h.places, lt)) in
-        let more = log_launches (k + 1) (cond (d == c) [] w) s' es h' legal.1 in
-        elim (d == c) as
-        (λ t. 0 + open_launches s c ≡ open_launches s' c + cond t (length (take 16 (place_of s c).ready)) 0
-        → launches_in (ran c es) + open_launches s' c + spent_in (cond t [] w)
-        ≡ open_launches (state_after kind s' es) c + ended_in (batches_from kind c (k + 1) (cond t [] w) s' es)
-        + spent_in (waiting_after c (cond t [] w) es)
-        → launches_in (ran c es) + open_launches s c + spent_in w
-        ≡ open_launches (state_after kind s' es) c
-        + ended_in (cond t (leaving c room (k + 1) w s ∷ batches_from kind c (k + 1) [] s' es) (batches_from kind c (k + 1) w s' es))
-        + spent_in (waiting_after c (cond t [] w) es)) [
-          | true ↦ λ one more. omega (arith, one, more)
-          | false ↦ λ one more. omega (arith, one, more)
-        ] one more
-
   -- a place that said Bye: it holds nothing, and no gift waits for it
   pub record IsShut (c : ℕ) (s : State V O R T) : Type 0 where
     pub closed : (place_of s c).is_closed ≡ true
