@@ -4,7 +4,7 @@ use Rattle.tm_seq.specs.Kind.{Kind}
 use Rattle.tm_batch.specs.declared.message.Request.{Request}
 use Rattle.tm_batch.specs.declared.message.Request.TheVariants.{Bye}
 use Rattle.tm_model.specs.declared.entry.Entry.{Entry}
-use Rattle.tm_model.specs.State.{State, place_count}
+use Rattle.tm_model.specs.State.{State, place_count, holds_at}
 use Rattle.tm_model.specs.Serve.{state_after}
 use Rattle.tm_model.specs.Legal.{IsLegal}
 use Rattle.tm_model.specs.GoodSlots.{IsSettled}
@@ -19,10 +19,11 @@ use Rattle.tm_core.proofs.HoldLog.{log_holds}
 use Rattle.tm_core.proofs.LaunchLog.{log_launches}
 use Rattle.tm_core.proofs.Numbering.{opening_place}
 use Rattle.tm_core.proofs.Ordered.{opening_ordered, log_ordered}
-use Rattle.tm_core.proofs.Rising.{holds_are_sum}
+use Rattle.tm_core.proofs.Rising.{holds_sum, holds_are_sum}
 use Rattle.tm_core.proofs.Tallied.{IsTallied, answer_keeps_tallied}
 
 module _ {V O R T : Type 0} (kind : Kind V O R T) where
+  -- where all answers to a place left, and nothing of it ran after a Bye
   log_tallied :
       (opening : State V O R T) (c : ℕ) (log : List (Entry V O R T)) → IsOpening opening → IsLegal kind opening log → c < place_count opening.setup
       → IsSettled mark_of c log
@@ -39,7 +40,7 @@ module _ {V O R T : Type 0} (kind : Kind V O R T) where
       let answers : answers_in (batches kind opening c log) ≡ answered c log =
       sym (append-nil _) ∙ ap (λ l. answers_in (batches kind opening c log) ++ l) (sym none) ∙ all in
       let flows = log_holds kind n c lt 0 [] opening log first legal (ap (λ p. p.is_closed) place) last in
-      let held : (id : ℕ) → _ = λ (id : ℕ). holds_are_sum n 1 s.next_id c id s.live now.rises in
+      let held : (id : ℕ) → holds_at s c id ≡ holds_sum c id s.live = λ id. holds_are_sum n 1 s.next_id c id s.live now.rises in
       record {
         holds = λ still id.
             let flow = flows.holds still id in
