@@ -18,11 +18,11 @@ cond_swap false false n = refl
 
 module _ {X : Type 0} where
   -- there is something, and P holds of it
-  pub one_of : (P : X → Type 0) (m : Option X) → IsSomeAnd m P → (x : X) × (m ≡ Some x) × P x
-  one_of P None h = absurd h
-  one_of P (Some x) h = (x, refl, h)
+  pub found : (o : Option X) (P : X → Type 0) → IsSomeAnd o P → (x : X) × (o ≡ Some x) × P x
+  found None P h = absurd h
+  found (Some x) P h = (x, refl, h)
 
   -- and both hold of it
-  pub two_of : (P Q : X → Type 0) (m : Option X) → IsSomeAnd m P → IsSomeAnd m Q → (x : X) × (m ≡ Some x) × P x × Q x
-  two_of P Q None p q = absurd p
-  two_of P Q (Some x) p q = (x, refl, p, q)
+  pub found_both : (o : Option X) (P Q : X → Type 0) → IsSomeAnd o P → IsSomeAnd o Q → (x : X) × (o ≡ Some x) × P x × Q x
+  found_both None P Q p q = absurd p
+  found_both (Some x) P Q p q = (x, refl, p, q)

@@ -23,27 +23,27 @@ use Rattle.tm_model.specs.Holds.{gave, brought, gifts_of}
 use Rattle.tm_core.proofs.Balance.{sum_granted, sum_released, sum_reclaimed, sum_appended}
 use Rattle.tm_core.proofs.Launches.{completed_live}
 use Rattle.tm_core.proofs.Ordered.{IsOrdered}
-use Rattle.tm_core.proofs.Choices.{cond_same, cond_plus, cond_swap, one_of, two_of}
-use Rattle.tm_core.proofs.Places.{place_kept}
+use Rattle.tm_core.proofs.Choices.{cond_same, cond_plus, cond_swap, found, found_both}
+use Rattle.tm_core.proofs.Places.{place_field}
 use Rattle.tm_core.proofs.Rising.{holds_sum, sum_change, sum_kept, sum_closed_other}
 use Rattle.tm_core.proofs.Tallies.{gifts_of-append}
 
 -- no hold of any place
-abbrev none_of : {X : Type 0} → List X → List ℕ
-none_of xs = map (λ _. 0) xs
+abbrev no_holds : {X : Type 0} → List X → List ℕ
+no_holds xs = map (λ _. 0) xs
 
-none_held : {X : Type 0} (xs : List X) (c : ℕ) → slice_index_or (none_of xs) c 0 ≡ 0
+none_held : {X : Type 0} (xs : List X) (c : ℕ) → slice_index_or (no_holds xs) c 0 ≡ 0
 none_held [] c = refl
 none_held (x ∷ xs) zero = refl
 none_held (x ∷ xs) (suc c) = none_held xs c
 
 -- the holds of a new object: one, of the place that entrusts it
-new_holds : {X : Type 0} (places : List X) (c d : ℕ) → d < length places → slice_index_or (slice_set (none_of places) d 1) c 0 ≡ cond (d == c) 1 0
+new_holds : {X : Type 0} (places : List X) (c d : ℕ) → d < length places → slice_index_or (slice_set (no_holds places) d 1) c 0 ≡ cond (d == c) 1 0
 new_holds places c d lt =
-    let many : length (none_of places) ≡ length places = length-map places _ in
+    let many : length (no_holds places) ≡ length places = length-map places _ in
     elim (cases_eq d c) [
-      | inl e ↦ rw (e, eq-eqb c c refl) (get_or-set_same (none_of places) c 1 0 (omega (arith, many, lt, e)))
-      | inr ne ↦ rw (ne_eqb d c ne) (get_or-set_other (none_of places) d c 1 0 (λ e. ne (sym e)) ∙ none_held places c)
+      | inl e ↦ rw (e, eq-eqb c c refl) (get_or-set_same (no_holds places) c 1 0 (omega (arith, many, lt, e)))
+      | inr ne ↦ rw (ne_eqb d c ne) (get_or-set_other (no_holds places) d c 1 0 (λ e. ne (sym e)) ∙ none_held places c)
     ]
 
 module _ {V O R T : Type 0} where
@@ -104,7 +104,7 @@ module _ {V O R T : Type 0} where
     served_gives (Entrust v) (Entrusted name) may not =
         live_gives c s _ _ _ refl (λ id.
         let more : holds_sum c id (served kind d (Entrust v) (Entrusted name) s).live
-        ≡ holds_sum c id s.live + cond (name.id == id) (slice_index_or (slice_set (none_of s.places) d 1) c 0) 0 = sum_appended c id s.live _ in
+        ≡ holds_sum c id s.live + cond (name.id == id) (slice_index_or (slice_set (no_holds s.places) d 1) c 0) 0 = sum_appended c id s.live _ in
         let own = ap (λ x. cond (name.id == id) x 0) (new_holds s.places c d (omega (arith, h.places, ld))) in
         let swapped = cond_swap (d == c) (name.id == id) 1 in
         let none = cond_same (d == c) 0 in
@@ -119,13 +119,13 @@ module _ {V O R T : Type 0} where
     served_gives (Launch i task) (TicketsSpent back) may not = live_gives c s s _ _ refl (λ id. refl)
     served_gives (Launch i task) _ may not = absurd may.1
     served_gives (Grant i e) Granted may not =
-        let (o, at, held) = one_of (λ o. 1 ≤ holds_of o d) (object_of s.live i.id) may.0 in
+        let (o, at, held) = found (object_of s.live i.id) (λ o. 1 ≤ holds_of o d) may.0 in
         granted_gives i e o at (omega (arith, h.count, may.1)) may.2.0
     served_gives (Grant i e) Gone may not = live_gives c s s _ _ refl (λ id. refl)
     served_gives (Grant i e) GiftsFull may not = live_gives c s s _ _ refl (λ id. refl)
     served_gives (Grant i e) _ may not = absurd may.2
     served_gives (Release i) Released may not =
-        let (o, at, held) = one_of (λ o. 1 ≤ holds_of o d) (object_of s.live i.id) may.0 in
+        let (o, at, held) = found (object_of s.live i.id) (λ o. 1 ≤ holds_of o d) may.0 in
         live_gives c s _ _ _ refl (λ id.
         let less = sum_released n 1 s.next_id s.live h.rises c id d i.id o at held ld in
         let same : holds_sum c id (served kind d (Release i) Released s).live
@@ -135,7 +135,7 @@ module _ {V O R T : Type 0} where
         omega (arith, less, same, one, none))
     served_gives (Release i) _ may not = let other = may.1 in absurd (cc)
     served_gives (Reclaim i) (Reclaimed v) may not =
-        let (o, at, held, one) = two_of (λ o. 1 ≤ holds_of o d) (λ o. (total o ≡ 1) × (v ≡ o.value)) (object_of s.live i.id) may.0 may.1 in
+        let (o, at, held, one) = found_both (object_of s.live i.id) (λ o. 1 ≤ holds_of o d) (λ o. (total o ≡ 1) × (v ≡ o.value)) may.0 may.1 in
         live_gives c s _ _ _ refl (λ id.
         let less = sum_reclaimed n 1 s.next_id s.live h.rises c id d i.id o at held one.0 in
         let given = cond_plus (d == c) (cond (i.id == id) 1 0) in
@@ -154,8 +154,8 @@ module _ {V O R T : Type 0} where
         → Gives c s (after kind s (By d k q a)) (λ id. cond (d == c) (gave id (q ∷ [])) 0) (λ id. cond (d == c) (brought id q a) 0)
     by_gives k q a may not =
         let t = served kind d q a s in
-        let gifts : (place_of (counted d t) c).gifts ≡ (place_of t c).gifts = place_kept (λ p. p.gifts) t.places d c _ refl in
-        let closed : (place_of (counted d t) c).is_closed ≡ (place_of t c).is_closed = place_kept (λ p. p.is_closed) t.places d c _ refl in
+        let gifts : (place_of (counted d t) c).gifts ≡ (place_of t c).gifts = place_field (λ p. p.gifts) t.places d c _ refl in
+        let closed : (place_of (counted d t) c).is_closed ≡ (place_of t c).is_closed = place_field (λ p. p.is_closed) t.places d c _ refl in
         let more = served_gives q a may not in
         record {
           holds = λ id. rw gifts (more.holds id);
@@ -190,7 +190,7 @@ module _ {V O R T : Type 0} where
       → (c ticket : ℕ) (ws : List (Work T)) (next : Next O T R) (t : State V O R T) → f (place_of (completed ws ticket next t) c) ≡ f (place_of t c)
   completed_kept f same c ticket [] next t = refl
   completed_kept f same c ticket (w ∷ ws) (Ask trustee i op task) t = refl
-  completed_kept f same c ticket (w ∷ ws) (Done r) t = place_kept f t.places w.place c _ (same _ _)
+  completed_kept f same c ticket (w ∷ ws) (Done r) t = place_field f t.places w.place c _ (same _ _)
 
   pub resume_gives :
       (kind : Kind V O R T) (c : ℕ) (s : State V O R T) (id ticket : ℕ) (event : Event R) (next : Next O T R)

@@ -20,7 +20,7 @@ use Rattle.tm_model.specs.Holds.{has_bye, gave, brought, brought_by, gifts_in, g
 use Rattle.tm_core.proofs.Gives.{Gives, by_gives, sent_gives, resume_gives}
 use Rattle.tm_core.proofs.Ordered.{IsOrdered, after_ordered}
 use Rattle.tm_core.proofs.Choices.{cond_same}
-use Rattle.tm_core.proofs.Places.{place_kept}
+use Rattle.tm_core.proofs.Places.{place_field}
 use Rattle.tm_core.proofs.Rising.{holds_sum, sum_kept, sum_closed}
 use Rattle.tm_core.proofs.Tallies.{gave-append, gifts_of-append}
 
@@ -93,8 +93,8 @@ module _ {V O R T : Type 0} where
         let t = served kind c Bye ByeDone s in
         let within : c < length s.places = omega (arith, h.places, lt) in
         let here : place_of t c ≡ record (place_of s c) { is_closed = true; gifts = [] } = get_or-set_same s.places c _ no_place within in
-        let gifts : (place_of (counted c t) c).gifts ≡ (place_of t c).gifts = place_kept (λ p. p.gifts) t.places c c _ refl in
-        let closed : (place_of (counted c t) c).is_closed ≡ (place_of t c).is_closed = place_kept (λ p. p.is_closed) t.places c c _ refl in
+        let gifts : (place_of (counted c t) c).gifts ≡ (place_of t c).gifts = place_field (λ p. p.gifts) t.places c c _ refl in
+        let closed : (place_of (counted c t) c).is_closed ≡ (place_of t c).is_closed = place_field (λ p. p.is_closed) t.places c c _ refl in
         rw (own, is, done) (record {
           closed = closed ∙ ap (λ p. p.is_closed) here;
           gifts = gifts ∙ ap (λ p. p.gifts) here;

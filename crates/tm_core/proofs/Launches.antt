@@ -17,8 +17,8 @@ use Rattle.tm_model.specs.Legal.{Serves, MayCome, HasFirst, IsAwaited}
 use Rattle.tm_model.specs.Holds.{launches_in, spent_in, works_of, unfinished}
 use Rattle.tm_core.proofs.Balance.{one_hold}
 use Rattle.tm_core.proofs.Ordered.{IsOrdered}
-use Rattle.tm_core.proofs.Choices.{cond_same, one_of, two_of}
-use Rattle.tm_core.proofs.Places.{place_kept}
+use Rattle.tm_core.proofs.Choices.{cond_same, found, found_both}
+use Rattle.tm_core.proofs.Places.{place_field}
 use Rattle.tm_core.proofs.Unfinished.{works_of-append, no_works, unfinished-append, unfinished_change, unfinished_map, unfinished_kept, unfinished_changed, unfinished_without}
 
 module _ {V O R T : Type 0} where
@@ -42,7 +42,7 @@ module _ {V O R T : Type 0} where
         omega (arith, same)
     served_launches (Apply i op) _ may = absurd may.1
     served_launches (Launch i task) (Launched ticket) may =
-        let (o, at, held) = one_of (λ o. 1 ≤ holds_of o d) (object_of s.live i.id) may.0 in
+        let (o, at, held) = found (object_of s.live i.id) (λ o. 1 ≤ holds_of o d) may.0 in
         let w : Work T = record { place = d; ticket = ticket; task = task; awaits = Start } in
         let changed : unfinished c (served kind d (Launch i task) (Launched ticket) s).live + works_of c o.works
         ≡ unfinished c s.live + works_of c (o.works ++ w ∷ []) =
@@ -55,7 +55,7 @@ module _ {V O R T : Type 0} where
     served_launches (Grant i e) Granted may =
         let same : unfinished c (served kind d (Grant i e) Granted s).live ≡ unfinished c s.live = unfinished_change c i.id _ s.live (λ o. refl) in
         let ready : length (place_of (served kind d (Grant i e) Granted s) c).ready ≡ length (place_of s c).ready =
-        place_kept (λ p. length p.ready) s.places e c _ refl in
+        place_field (λ p. length p.ready) s.places e c _ refl in
         omega (arith, same, ready)
     served_launches (Grant i e) Gone may = omega arith
     served_launches (Grant i e) GiftsFull may = omega arith
@@ -66,7 +66,7 @@ module _ {V O R T : Type 0} where
         omega (arith, same)
     served_launches (Release i) _ may = let not = may.1 in absurd cc
     served_launches (Reclaim i) (Reclaimed v) may =
-        let (o, at, held, one) = two_of (λ o. 1 ≤ holds_of o d) (λ o. (total o ≡ 1) × (v ≡ o.value)) (object_of s.live i.id) may.0 may.1 in
+        let (o, at, held, one) = found_both (object_of s.live i.id) (λ o. 1 ≤ holds_of o d) (λ o. (total o ≡ 1) × (v ≡ o.value)) may.0 may.1 in
         let gone = unfinished_without n 1 s.next_id c i.id s.live o h.rises at in
         let most = one_hold o.holds d in
         let none = no_works c 0 o.works (omega (arith, held, one.0, most)) in
@@ -77,7 +77,7 @@ module _ {V O R T : Type 0} where
         let same : unfinished c (served kind d Bye ByeDone s).live ≡ unfinished c s.live =
         unfinished_kept c _ ∙ unfinished_map c _ s.live (λ o. refl) in
         let ready : length (place_of (served kind d Bye ByeDone s) c).ready ≡ length (place_of s c).ready =
-        place_kept (λ p. length p.ready) s.places d c _ refl in
+        place_field (λ p. length p.ready) s.places d c _ refl in
         omega (arith, same, ready)
     served_launches Bye _ may = absurd cc
 
@@ -86,7 +86,7 @@ module _ {V O R T : Type 0} where
         → Launches c s (after kind s (By d k q a)) (cond (d == c) (launches_in (q ∷ [])) 0) (cond (d == c) (spent_in (a ∷ [])) 0)
     by_launches k q a may =
         let t = served kind d q a s in
-        let ready : length (place_of (counted d t) c).ready ≡ length (place_of t c).ready = place_kept (λ p. length p.ready) t.places d c _ refl in
+        let ready : length (place_of (counted d t) c).ready ≡ length (place_of t c).ready = place_field (λ p. length p.ready) t.places d c _ refl in
         let more = served_launches q a may in
         omega (arith, ready, more)
 
@@ -137,8 +137,8 @@ module _ {V O R T : Type 0} where
       (kind : Kind V O R T) (n c : ℕ) (s : State V O R T) (id ticket : ℕ) (event : Event R) (next : Next O T R) → IsOrdered n s → c < n
       → MayCome kind s (Resume id ticket event next) → Launches c s (resumed kind id ticket event next s) 0 0
   resume_launches kind n c s id ticket event next h lt may =
-      let (o, at, first) = one_of (λ o. HasFirst o.works (λ w. (w.ticket ≡ ticket) × IsAwaited s.setup w.awaits event
-      × IsResume kind o.value w.task event (value_resumed kind o.value w.task event next) next)) (object_of s.live id) may in
+      let (o, at, first) = found (object_of s.live id) (λ o. HasFirst o.works (λ w. (w.ticket ≡ ticket) × IsAwaited s.setup w.awaits event
+      × IsResume kind o.value w.task event (value_resumed kind o.value w.task event next) next)) may in
       let f : Object V T → Object V T = λ o. record o { value = value_advanced kind o.value o.works event next; works = works_resumed o.works next } in
       let t : State V O R T = with_live (kept (change id f s.live)) s in
       let within : c < length t.places = omega (arith, h.places, lt) in

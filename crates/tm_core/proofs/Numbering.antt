@@ -19,7 +19,7 @@ use Rattle.tm_model.specs.Serve.{served, counted, completed, resumed, sent_off, 
 use Rattle.tm_model.specs.Legal.{IsLegal}
 use Rattle.tm_model.specs.Ran.{ran, numbers}
 use Rattle.tm_model.specs.Laws.{IsOpening, RequestsAreNumbered}
-use Rattle.tm_core.proofs.Places.{place_kept}
+use Rattle.tm_core.proofs.Places.{place_field}
 
 module _ {V O R T : Type 0} where
   -- a place of an opening state has nothing
@@ -36,9 +36,9 @@ module _ {V O R T : Type 0} where
 
   served_same : (kind : Kind V O R T) (c : ℕ) (q : Request V O R T) (a : Answer V O R T) (s : State V O R T) → SameCounts s (served kind c q a s)
   served_same kind c (Grant n d) Granted s =
-      record { places = length-set s.places d _; served = λ e. place_kept (λ p. p.served) s.places d e _ refl }
+      record { places = length-set s.places d _; served = λ e. place_field (λ p. p.served) s.places d e _ refl }
   served_same kind c Bye ByeDone s =
-      record { places = length-set s.places c _; served = λ e. place_kept (λ p. p.served) s.places c e _ refl }
+      record { places = length-set s.places c _; served = λ e. place_field (λ p. p.served) s.places c e _ refl }
   served_same kind c (Entrust v) (Entrusted n) s = record { places = refl; served = λ e. refl }
   served_same kind c (Apply n op) (Replied r) s = record { places = refl; served = λ e. refl }
   served_same kind c (Launch n task) (Launched ticket) s = record { places = refl; served = λ e. refl }
@@ -48,7 +48,7 @@ module _ {V O R T : Type 0} where
 
   completed_same : (ws : List (Work T)) (ticket : ℕ) (next : Next O T R) (s : State V O R T) → SameCounts s (completed ws ticket next s)
   completed_same (w ∷ ws) ticket (Done r) s =
-      record { places = length-set s.places w.place _; served = λ e. place_kept (λ p. p.served) s.places w.place e _ refl }
+      record { places = length-set s.places w.place _; served = λ e. place_field (λ p. p.served) s.places w.place e _ refl }
   completed_same _ ticket _ s = record { places = refl; served = λ e. refl }
 
   pub resumed_same :
@@ -58,7 +58,7 @@ module _ {V O R T : Type 0} where
       record { places = done.places; served = λ e. done.served e }
 
   pub sent_same : (c room : ℕ) (s : State V O R T) → SameCounts s (sent_off c room s)
-  sent_same c room s = record { places = length-set s.places c _; served = λ e. place_kept (λ p. p.served) s.places c e _ refl }
+  sent_same c room s = record { places = length-set s.places c _; served = λ e. place_field (λ p. p.served) s.places c e _ refl }
 
   counted_own : (c : ℕ) (s : State V O R T) → c < length s.places → (place_of (counted c s) c).served ≡ (place_of s c).served + 1
   counted_own c s lt = rw (get_or-set_same s.places c (record (place_of s c) { served = (place_of s c).served + 1 }) no_place lt) refl
