@@ -2,6 +2,8 @@ pub mod Accounts
 pub mod AllAnswers
 pub mod AnswerKeeps
 pub mod Balance
+pub mod Bounds
+pub mod Every
 pub mod First
 pub mod Joins
 pub mod Keeps
@@ -14,6 +16,7 @@ pub mod Ordered
 pub mod Rising
 pub mod Runs
 pub mod Showing
+pub mod Sound
 pub mod Tallies
 pub mod Tallied
 pub mod Telling

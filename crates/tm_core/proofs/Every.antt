@@ -1,0 +1,65 @@
+-- What holds of all items of a list, where the list is changed.
+use Rattle.std.proofs.Common.{◌≡◌, ℕ, zero, suc, Bool, true, false, cond, List, [], ◌∷◌, ◌++◌, map, filter, slice_index_or, slice_set, inl, inr, refl, ne_eqb}
+use Rattle.std.specs.Prelude.{◌==◌}
+use Rattle.std.proofs.lemmas.Bool.{cases_eq}
+use Rattle.std.proofs.Math.ListN.{replicate}
+use Rattle.std.specs.List.{AllByRecursion}
+use Rattle.std.specs.Option.{IsSomeAnd}
+use Rattle.std.specs.declared.option.Option.{Option}
+use Rattle.std.specs.declared.option.Option.TheVariants.{None, Some}
+
+-- numbers that a test says are the same
+pub is_same : (a b : ℕ) → (a == b) ≡ true → a ≡ b
+is_same a b h = elim (cases_eq a b) [ inl e ↦ e | inr ne ↦ absurd (let no = ne_eqb a b ne in cc) ]
+
+-- the value that is there
+pub found : {X : Type 0} (o : Option X) (P : X → Type 0) → IsSomeAnd o P → (x : X) × (o ≡ Some x) × P x
+found None P h = absurd h
+found (Some x) P h = (x, refl, h)
+
+pub all_map : {X Y : Type 0} (P : X → Type 0) (Q : Y → Type 0) (f : X → Y) (xs : List X) → ((x : X) → P x → Q (f x)) → AllByRecursion P xs → AllByRecursion Q (map f xs)
+all_map P Q f [] each h = tt
+all_map P Q f (x ∷ xs) each h = (each x h.0, all_map P Q f xs each h.1)
+
+module _ {X : Type 0} where
+  pub all_weaker : (P Q : X → Type 0) (xs : List X) → ((x : X) → P x → Q x) → AllByRecursion P xs → AllByRecursion Q xs
+  all_weaker P Q [] each h = tt
+  all_weaker P Q (x ∷ xs) each h = (each x h.0, all_weaker P Q xs each h.1)
+
+  pub all_both : (P Q : X → Type 0) (xs : List X) → AllByRecursion P xs → AllByRecursion Q xs → AllByRecursion (λ x. P x × Q x) xs
+  all_both P Q [] h k = tt
+  all_both P Q (x ∷ xs) h k = ((h.0, k.0), all_both P Q xs h.1 k.1)
+
+  -- items that a filter leaves pass its test
+  pub all_filter : (P : X → Type 0) (p : X → Bool) (xs : List X) → AllByRecursion P xs → AllByRecursion (λ x. P x × (p x ≡ true)) (filter p xs)
+  all_filter P p [] h = tt
+  all_filter P p (x ∷ xs) h =
+      let more = all_filter P p xs h.1 in
+      let first : (p x ≡ true) → P x × (p x ≡ true) = λ e. (h.0, e) in
+      elim (p x) as (λ t. ((t ≡ true) → P x × (p x ≡ true)) → AllByRecursion (λ x. P x × (p x ≡ true)) (cond t (x ∷ filter p xs) (filter p xs))) [
+        | true ↦ λ first. (first refl, more)
+        | false ↦ λ first. more
+      ] first
+
+  pub all-append : (P : X → Type 0) (xs ys : List X) → AllByRecursion P xs → AllByRecursion P ys → AllByRecursion P (xs ++ ys)
+  all-append P [] ys h k = k
+  all-append P (x ∷ xs) ys h k = (h.0, all-append P xs ys h.1 k)
+
+  pub all_set : (P : X → Type 0) (xs : List X) (i : ℕ) (y : X) → P y → AllByRecursion P xs → AllByRecursion P (slice_set xs i y)
+  all_set P [] i y own h = tt
+  all_set P (x ∷ xs) zero y own h = (own, h.1)
+  all_set P (x ∷ xs) (suc i) y own h = (h.0, all_set P xs i y own h.1)
+
+  pub all_at : (P : X → Type 0) (xs : List X) (i : ℕ) (d : X) → P d → AllByRecursion P xs → P (slice_index_or xs i d)
+  all_at P [] i d default h = default
+  all_at P (x ∷ xs) zero d default h = h.0
+  all_at P (x ∷ xs) (suc i) d default h = all_at P xs i d default h.1
+
+  -- what holds of each value holds of all
+  pub all_each : (P : X → Type 0) (xs : List X) → ((x : X) → P x) → AllByRecursion P xs
+  all_each P [] each = tt
+  all_each P (x ∷ xs) each = (each x, all_each P xs each)
+
+  pub all_replicate : (P : X → Type 0) (n : ℕ) (x : X) → P x → AllByRecursion P (replicate n x)
+  all_replicate P zero x h = tt
+  all_replicate P (suc n) x h = (h, all_replicate P n x h)

@@ -1,0 +1,13 @@
+//! What holds of all legal logs of a trustee and of the states that they leave, for every kind of object.
+//!
+//! Nothing here runs: each function states a law.
+ghost use Rattle.tm_model.specs.Laws.{StatesAreSound};
+
+use tm_seq::Entrusted;
+
+/// A legal log leaves a sound state: ids and tickets are given out once, up to the last; each live
+/// object has a hold or unfinished work; no place has more holds on one object than a `u32` counts,
+/// and no more than 1,024 gifts wait for it.
+pub fn states_are_sound<S: Entrusted>()
+    ensures { StatesAreSound S.kind }
+{}
