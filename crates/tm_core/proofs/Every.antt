@@ -1,7 +1,9 @@
 -- What holds of all items of a list, where the list is changed.
-use Rattle.std.proofs.Common.{◌≡◌, ℕ, zero, suc, Bool, true, false, cond, List, [], ◌∷◌, ◌++◌, map, filter, slice_index_or, slice_set, inl, inr, refl, ne_eqb}
+use Rattle.std.proofs.Common.{◌≡◌, ℕ, zero, suc, Bool, true, false, cond, List, [], ◌∷◌, ◌++◌, map, filter, slice_index_or, slice_set, inl, inr, refl, ne_eqb, ◌≤◌, ◌⊎◌, length, sum, arith}
 use Rattle.std.specs.Prelude.{◌==◌}
-use Rattle.std.proofs.lemmas.Bool.{cases_eq}
+use Rattle.std.proofs.lemmas.Bool.{cases_eq, cases_lt}
+use Rattle.std.proofs.lemmas.List.{get_or_past}
+use Rattle.std.proofs.lemmas.List.Sums.{get_or-le-sum_by}
 use Rattle.std.proofs.Math.ListN.{replicate}
 use Rattle.std.specs.List.{AllByRecursion}
 use Rattle.std.specs.Option.{IsSomeAnd}
@@ -11,6 +13,18 @@ use Rattle.std.specs.declared.option.Option.TheVariants.{None, Some}
 -- numbers that a test says are the same
 pub is_same : (a b : ℕ) → (a == b) ≡ true → a ≡ b
 is_same a b h = elim (cases_eq a b) [ inl e ↦ e | inr ne ↦ absurd (let no = ne_eqb a b ne in cc) ]
+
+pub item_within : (xs : List ℕ) (i : ℕ) → slice_index_or xs i 0 ≤ sum xs
+item_within xs i =
+    elim (cases_lt i (length xs)) [
+      | inl lt ↦ get_or-le-sum_by (λ x. x) xs i 0 lt
+      | inr ge ↦ let none = get_or_past xs i 0 ge in omega (arith, none)
+    ]
+
+-- there is a value, or none
+pub option_cases : {X : Type 0} (o : Option X) → (o ≡ None) ⊎ ((x : X) × (o ≡ Some x))
+option_cases None = inl refl
+option_cases (Some x) = inr (x, refl)
 
 -- the value that is there
 pub found : {X : Type 0} (o : Option X) (P : X → Type 0) → IsSomeAnd o P → (x : X) × (o ≡ Some x) × P x

@@ -1,13 +1,17 @@
+pub mod Absent
 pub mod Accounts
 pub mod AllAnswers
 pub mod AnswerKeeps
 pub mod Balance
 pub mod Bounds
 pub mod Every
+pub mod Finding
 pub mod First
+pub mod Histories
 pub mod Joins
 pub mod Keeps
 pub mod Lists
+pub mod Living
 pub mod Marks
 pub mod Newly
 pub mod NumberLogs

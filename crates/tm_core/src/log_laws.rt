@@ -1,7 +1,7 @@
 //! What holds of all legal logs of a trustee and of the states that they leave, for every kind of object.
 //!
 //! Nothing here runs: each function states a law.
-ghost use Rattle.tm_model.specs.Laws.{StatesAreSound};
+ghost use Rattle.tm_model.specs.Laws.{StatesAreSound, HistoriesTellValues};
 
 use tm_seq::Entrusted;
 
@@ -10,4 +10,10 @@ use tm_seq::Entrusted;
 /// and no more than 1,024 gifts wait for it.
 pub fn states_are_sound<S: Entrusted>()
     ensures { StatesAreSound S.kind }
+{}
+
+/// The value and the unfinished tasks of a live object are what its history leaves, by the kind's
+/// `step` and `advance` alone, of the value with which it was entrusted.
+pub fn histories_tell_values<S: Entrusted>()
+    ensures { HistoriesTellValues S.kind }
 {}
