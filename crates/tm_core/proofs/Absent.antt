@@ -41,7 +41,11 @@ module _ {V O R T : Type 0} where
       record { history = λ es. rw (ne_eqb i.id id ne) refl; tickets = λ es. refl; resumes = λ es. refl }
   served_past kind c k id (Launch i task) (Launched ticket) s may at =
       let ne : i.id ≢ id = no_object s i.id id _ may.0 at in
-      record { history = λ es. rw (ne_eqb i.id id ne) refl; tickets = λ es. rw (ne_eqb i.id id ne) refl; resumes = λ es. refl }
+      record {
+        history = λ es. ap (λ t. cond t (By c k (Launch i task) (Launched ticket) ∷ history_of id es) (history_of id es)) (ne_eqb i.id id ne);
+        tickets = λ es. ap (λ t. cond t (ticket ∷ tickets_of id es) (tickets_of id es)) (ne_eqb i.id id ne);
+        resumes = λ es. refl;
+      }
   served_past kind c k id _ _ s may at = record { history = λ es. refl; tickets = λ es. refl; resumes = λ es. refl }
 
   -- an entry that may come is not of an id that is not live

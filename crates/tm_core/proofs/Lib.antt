@@ -10,6 +10,7 @@ pub mod First
 pub mod Histories
 pub mod Joins
 pub mod Keeps
+pub mod Latching
 pub mod Lists
 pub mod Living
 pub mod Marks

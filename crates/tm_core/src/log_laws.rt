@@ -1,7 +1,7 @@
 //! What holds of all legal logs of a trustee and of the states that they leave, for every kind of object.
 //!
 //! Nothing here runs: each function states a law.
-ghost use Rattle.tm_model.specs.Laws.{StatesAreSound, HistoriesTellValues};
+ghost use Rattle.tm_model.specs.Laws.{StatesAreSound, HistoriesTellValues, LaunchesAreLatched};
 
 use tm_seq::Entrusted;
 
@@ -16,4 +16,10 @@ pub fn states_are_sound<S: Entrusted>()
 /// `step` and `advance` alone, of the value with which it was entrusted.
 pub fn histories_tell_values<S: Entrusted>()
     ensures { HistoriesTellValues S.kind }
+{}
+
+/// Launched work on one object runs one at a time, in the order of its launches, each ended before
+/// the next begins.
+pub fn launches_are_latched<S: Entrusted>()
+    ensures { LaunchesAreLatched S.kind }
 {}
