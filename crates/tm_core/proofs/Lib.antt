@@ -18,6 +18,7 @@ pub mod Newly
 pub mod NumberLogs
 pub mod Numbering
 pub mod Ordered
+pub mod Promised
 pub mod Rising
 pub mod Runs
 pub mod Showing

@@ -17,7 +17,9 @@ pub use laws::{
     SlotLog, answer_keeps_slots, collect_keeps_slots, first_slots_are_good, publish_keeps_slots,
     see_keeps_slots, steps_keep_slots,
 };
-pub use log_laws::{histories_tell_values, launches_are_latched, states_are_sound};
+pub use log_laws::{
+    batches_are_told, histories_tell_values, launches_are_latched, states_are_sound,
+};
 pub use machine::Core;
 pub use step::{Step, StepRefused};
 

@@ -1,7 +1,7 @@
 //! What holds of all legal logs of a trustee and of the states that they leave, for every kind of object.
 //!
 //! Nothing here runs: each function states a law.
-ghost use Rattle.tm_model.specs.Laws.{StatesAreSound, HistoriesTellValues, LaunchesAreLatched};
+ghost use Rattle.tm_model.specs.Laws.{StatesAreSound, HistoriesTellValues, LaunchesAreLatched, BatchesAreTold};
 
 use tm_seq::Entrusted;
 
@@ -22,4 +22,12 @@ pub fn histories_tell_values<S: Entrusted>()
 /// the next begins.
 pub fn launches_are_latched<S: Entrusted>()
     ensures { LaunchesAreLatched S.kind }
+{}
+
+/// A good core tells of each batch that is asked or taken, whatever is resumed first and answered to
+/// its earlier requests: each id that a request names is live and held by its place; unfinished
+/// launches, ready completions and launches of the batch are together at most 64; a Bye stands
+/// alone, and nothing follows one.
+pub fn batches_are_told<S: Entrusted>()
+    ensures { BatchesAreTold S.kind }
 {}
