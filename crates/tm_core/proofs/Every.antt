@@ -6,6 +6,8 @@ use Rattle.std.proofs.lemmas.List.{get_or_past}
 use Rattle.std.proofs.lemmas.List.Sums.{get_or-le-sum_by}
 use Rattle.std.proofs.Math.ListN.{replicate}
 use Rattle.std.specs.List.{AllByRecursion}
+use Rattle.tm_model.specs.State.{Work}
+use Rattle.tm_model.specs.Legal.{HasFirst}
 use Rattle.std.specs.Option.{IsSomeAnd}
 use Rattle.std.specs.declared.option.Option.{Option}
 use Rattle.std.specs.declared.option.Option.TheVariants.{None, Some}
@@ -20,6 +22,15 @@ item_within xs i =
       | inl lt ↦ get_or-le-sum_by (λ x. x) xs i 0 lt
       | inr ge ↦ let none = get_or_past xs i 0 ge in omega (arith, none)
     ]
+
+-- what holds of a first launch
+pub weaker_first : {T : Type 0} (ws : List (Work T)) (P Q : Work T → Type 0) → ((w : Work T) → P w → Q w) → HasFirst ws P → HasFirst ws Q
+weaker_first [] P Q each h = absurd h
+weaker_first (w ∷ ws) P Q each h = each w h
+
+pub first_both : {T : Type 0} (ws : List (Work T)) (P Q : Work T → Type 0) → HasFirst ws P → AllByRecursion Q ws → HasFirst ws (λ w. P w × Q w)
+first_both [] P Q h all = absurd h
+first_both (w ∷ ws) P Q h all = (h, all.0)
 
 -- there is a value, or none
 pub option_cases : {X : Type 0} (o : Option X) → (o ≡ None) ⊎ ((x : X) × (o ≡ Some x))

@@ -1,6 +1,7 @@
 -- The live object of an id, where the live objects change.
 use Rattle.std.proofs.Common.{◌≡◌, ◌≢◌, ℕ, ◌+◌, ◌<◌, ◌⊎◌, Bool, true, false, not, cond, List, [], ◌∷◌, ◌++◌, length, map, filter, inl, inr, refl, sym, ◌∙◌, ap, subst, arith, eq-eqb, ne_eqb}
 use Rattle.std.specs.Prelude.{◌==◌}
+use Rattle.std.specs.List.{AllByRecursion}
 use Rattle.std.specs.declared.option.Option.TheVariants.{None, Some}
 use Rattle.std.proofs.lemmas.Bool.{cases_eq}
 use Rattle.tm_model.specs.State.{Object, total, change, kept, object_of}
@@ -161,3 +162,15 @@ module _ {V T : Type 0} where
 
   pub append_none : (live : List (Object V T)) (o : Object V T) (id : ℕ) → object_of live id ≡ None → object_of (live ++ o ∷ []) id ≡ cond (o.id == id) (Some o) None
   append_none live o id at = find-append (λ y. y.id == id) live (o ∷ []) ∙ ap (λ y. option_or y (object_of (o ∷ []) id)) at
+
+  -- what holds of all holds of the one that is found
+  pub all_found : (P : Object V T → Type 0) (id : ℕ) (live : List (Object V T)) (x : Object V T) → object_of live id ≡ Some x → AllByRecursion P live → P x
+  all_found P id [] x at h = absurd cc
+  all_found P id (o ∷ live) x at h =
+      elim (cases_eq o.id id) [
+        | inl e ↦
+            let here = rw (eq-eqb o.id id e) at at in
+            let is : o ≡ x = cc in
+            subst P is h.0
+        | inr ne ↦ let later = rw (ne_eqb o.id id ne) at at in all_found P id live x later h.1
+      ]

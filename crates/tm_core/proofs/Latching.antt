@@ -19,7 +19,7 @@ use Rattle.tm_model.specs.Serve.{value_run, works_resumed, after}
 use Rattle.tm_model.specs.Legal.{IsAwaited, HasFirst, MayCome, IsLegal}
 use Rattle.tm_model.specs.Latched.{Resumption, IsBegin, IsDone, AreRuns, tickets_of, resumes_of}
 use Rattle.tm_model.specs.Laws.{LaunchesAreLatched}
-use Rattle.tm_core.proofs.Every.{option_cases, all-append}
+use Rattle.tm_core.proofs.Every.{weaker_first, option_cases, all-append}
 use Rattle.tm_core.proofs.Living.{lives, after_goes}
 use Rattle.tm_core.proofs.Absent.{after_past, after_appears}
 use Rattle.tm_core.proofs.Histories.{opening_idle}
@@ -179,10 +179,6 @@ none_comes {T} O R (w ∷ ws) =
       | Start ↦ inl refl
       | AskOf u i ↦ inl (record { one_ticket = tt; begun = tt }, tt)
     ]
-
-weaker_first : {T : Type 0} (ws : List (Work T)) (P Q : Work T → Type 0) → ((w : Work T) → P w → Q w) → HasFirst ws P → HasFirst ws Q
-weaker_first [] P Q each h = absurd h
-weaker_first (w ∷ ws) P Q each h = each w h
 
 module _ {V O R T : Type 0} where
   has_it : (s : State V O R T) (i id : ℕ) (P : Object V T → Type 0) (x : Object V T) → i ≡ id → HasObject s i P → object_of s.live id ≡ Some x → P x

@@ -4,6 +4,8 @@ pub mod AllAnswers
 pub mod AnswerKeeps
 pub mod Balance
 pub mod Bounds
+pub mod Completing
+pub mod EndingOnce
 pub mod Every
 pub mod Finding
 pub mod First
@@ -13,11 +15,13 @@ pub mod Keeps
 pub mod Latching
 pub mod Lists
 pub mod Living
+pub mod Longer
 pub mod Marks
 pub mod Newly
 pub mod NumberLogs
 pub mod Numbering
 pub mod Ordered
+pub mod Places
 pub mod Promised
 pub mod Rising
 pub mod Runs
@@ -26,3 +30,5 @@ pub mod Sound
 pub mod Tallies
 pub mod Tallied
 pub mod Telling
+pub mod Tracing
+pub mod Weighing

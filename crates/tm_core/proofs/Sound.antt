@@ -25,7 +25,7 @@ use Rattle.tm_core.proofs.Ordered.{IsOrdered, after_ordered, log_ordered, openin
 
 module _ {V O R T : Type 0} where
   -- ids and tickets are given out up to the last, and what a state has stays within the config
-  record IsBounded (n : ℕ) (built : Setup) (s : State V O R T) : Type 0 where
+  pub record IsBounded (n : ℕ) (built : Setup) (s : State V O R T) : Type 0 where
     pub setup : s.setup ≡ built
     pub next_id : (1 ≤ s.next_id) × (s.next_id ≤ built.config.last_id + 1)
     pub next_ticket : (1 ≤ s.next_ticket) × (s.next_ticket ≤ built.config.last_id + 1)
@@ -152,7 +152,7 @@ module _ {V O R T : Type 0} where
   }
   completed_bounded n built _ ticket _ s h = h
 
-  after_bounded :
+  pub after_bounded :
       (kind : Kind V O R T) (n : ℕ) (built : Setup) (s : State V O R T) (e : Entry V O R T)
       → n ≡ place_count built → MayCome kind s e → IsOrdered n s → IsBounded n built s → IsBounded n built (after kind s e)
   after_bounded kind n built s (By c k q a) is may ordered h =
@@ -201,7 +201,7 @@ module _ {V O R T : Type 0} where
       log_bounded kind n built (after kind s e) es is legal.1 (after_ordered kind n s e legal.0 ordered) (after_bounded kind n built s e is legal.0 ordered h)
 
 module _ {V O R T : Type 0} where
-  opening_bounded : (opening : State V O R T) → IsOpening opening → IsBounded (place_count opening.setup) opening.setup opening
+  pub opening_bounded : (opening : State V O R T) → IsOpening opening → IsBounded (place_count opening.setup) opening.setup opening
   opening_bounded opening (number, config, first, can, below, is) =
       let n = config.clients + number in
       let here = placed_on number first in

@@ -1,7 +1,7 @@
 //! What holds of all legal logs of a trustee and of the states that they leave, for every kind of object.
 //!
 //! Nothing here runs: each function states a law.
-ghost use Rattle.tm_model.specs.Laws.{StatesAreSound, HistoriesTellValues, LaunchesAreLatched, BatchesAreTold};
+ghost use Rattle.tm_model.specs.Laws.{StatesAreSound, HistoriesTellValues, LaunchesAreLatched, BatchesAreTold, LongerLogsAdd, IdsNeverReturn, CompletionsAreOfLaunches};
 
 use tm_seq::Entrusted;
 
@@ -30,4 +30,21 @@ pub fn launches_are_latched<S: Entrusted>()
 /// alone, and nothing follows one.
 pub fn batches_are_told<S: Entrusted>()
     ensures { BatchesAreTold S.kind }
+{}
+
+/// A longer log only adds: what ran for a place, its answers and its answer batches go on.
+pub fn longer_logs_add<S: Entrusted>()
+    ensures { LongerLogsAdd S.kind }
+{}
+
+/// Ids and tickets are given out in order, each once, and an id that was given out and is not live
+/// is never live again.
+pub fn ids_never_return<S: Entrusted>()
+    ensures { IdsNeverReturn S.kind }
+{}
+
+/// The completions that left for a place, and then those that are ready, are those of the launches
+/// of the place that ended, in the order of their ends, and no two have one ticket.
+pub fn completions_are_of_launches<S: Entrusted>()
+    ensures { CompletionsAreOfLaunches S.kind }
 {}
