@@ -1,4 +1,4 @@
--- What holds of all items of a list, where the list is changed.
+-- Small lemmas: numbers, options, first launches, and what holds of all items of a list that is changed.
 use Rattle.std.proofs.Common.{◌≡◌, ℕ, zero, suc, Bool, true, false, cond, List, [], ◌∷◌, ◌++◌, map, filter, slice_index_or, slice_set, inl, inr, refl, ne_eqb, ◌≤◌, ◌⊎◌, length, sum, arith}
 use Rattle.std.specs.Prelude.{◌==◌}
 use Rattle.std.proofs.lemmas.Bool.{cases_eq, cases_lt}
@@ -16,6 +16,7 @@ use Rattle.std.specs.declared.option.Option.TheVariants.{None, Some}
 pub is_same : (a b : ℕ) → (a == b) ≡ true → a ≡ b
 is_same a b h = elim (cases_eq a b) [ inl e ↦ e | inr ne ↦ absurd (let no = ne_eqb a b ne in cc) ]
 
+-- an item is no more than all
 pub item_within : (xs : List ℕ) (i : ℕ) → slice_index_or xs i 0 ≤ sum xs
 item_within xs i =
     elim (cases_lt i (length xs)) [

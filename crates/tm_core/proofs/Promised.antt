@@ -188,8 +188,8 @@ module _ {V O R T : Type 0} where
     holds_enough before after q id parts names =
         let was = good.accounts c lt in
         let none : has_bye b ≢ true = λ bye. bye_names before after q id (sym (orderly.bye bye).0 ∙ parts) names in
-        let open_still : has_bye (ran c log) ≢ true = λ bye. not_in_none before after q (sym (orderly.last bye) ∙ parts) in
-        let still : has_bye slot.sent ≢ true = λ bye. elim (bye_in (ran c log) b (sym (ap has_bye sent) ∙ bye)) [ inl h ↦ open_still h | inr h ↦ none h ] in
+        let unclosed : has_bye (ran c log) ≢ true = λ bye. not_in_none before after q (sym (orderly.last bye) ∙ parts) in
+        let still : has_bye slot.sent ≢ true = λ bye. elim (bye_in (ran c log) b (sym (ap has_bye sent) ∙ bye)) [ inl h ↦ unclosed h | inr h ↦ none h ] in
         let had = was.holds still id in
         let (all, many, settled) = batches_have_all_answers kind opening log c in
         let counted = ap length all in

@@ -82,7 +82,7 @@ second_of_run :
     → (s.ticket ≡ ticket) × (¬ IsBegin s.event)
 second_of_run ticket r s rs [] rest is asks whole = let (first, others, e, begins, later) = whole.begun.begin in absurd cc
 second_of_run ticket r s rs (x ∷ []) rest is asks whole =
-    let (front, last, e, open_still, done) = whole.done in
+    let (front, last, e, asks_first, done) = whole.done in
     let same : x ≡ r = cc in
     absurd (asks (subst (λ y. IsDone y.next) (ends_by front x last e ∙ same) done))
 second_of_run ticket r s rs (x ∷ y ∷ run) rest is asks whole =
