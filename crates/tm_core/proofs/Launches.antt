@@ -15,9 +15,10 @@ use Rattle.tm_model.specs.State.{Start, Work, Object, Place, State, no_place, pl
 use Rattle.tm_model.specs.Serve.{value_resumed, value_advanced, works_resumed, served, counted, completed, resumed, sent_off, after}
 use Rattle.tm_model.specs.Legal.{Serves, MayCome, HasFirst, IsAwaited}
 use Rattle.tm_model.specs.Holds.{launches_in, spent_in, works_of, unfinished}
-use Rattle.tm_core.proofs.Balance.{one_hold}
 use Rattle.tm_core.proofs.Ordered.{IsOrdered}
-use Rattle.tm_core.proofs.Choices.{cond_same, found, found_both}
+use Rattle.tm_core.proofs.Choices.{cond_same}
+use Rattle.tm_core.proofs.Every.{found, found_both, item_within}
+use Rattle.tm_core.proofs.Living.{completed_live}
 use Rattle.tm_core.proofs.Places.{place_field}
 use Rattle.tm_core.proofs.Unfinished.{works_of-append, no_works, unfinished-append, unfinished_change, unfinished_map, unfinished_kept, unfinished_changed, unfinished_without}
 
@@ -68,7 +69,7 @@ module _ {V O R T : Type 0} where
     served_launches (Reclaim i) (Reclaimed v) may =
         let (o, at, held, one) = found_both (object_of s.live i.id) (λ o. 1 ≤ holds_of o d) (λ o. (total o ≡ 1) × (v ≡ o.value)) may.0 may.1 in
         let gone = unfinished_without n 1 s.next_id c i.id s.live o h.rises at in
-        let most = one_hold o.holds d in
+        let most = item_within o.holds d in
         let none = no_works c 0 o.works (omega (arith, held, one.0, most)) in
         omega (arith, gone, none)
     served_launches (Reclaim i) Shared may = omega arith
@@ -127,11 +128,6 @@ module _ {V O R T : Type 0} where
               let none = rw (ne_eqb w.place c ne) at e in
               rw there (omega (arith, none))
         ]
-
-  pub completed_live : (ws : List (Work T)) (ticket : ℕ) (next : Next O T R) (t : State V O R T) → (completed ws ticket next t).live ≡ t.live
-  completed_live [] ticket next t = refl
-  completed_live (w ∷ ws) ticket (Ask trustee i op task) t = refl
-  completed_live (w ∷ ws) ticket (Done r) t = refl
 
   pub resume_launches :
       (kind : Kind V O R T) (n c : ℕ) (s : State V O R T) (id ticket : ℕ) (event : Event R) (next : Next O T R) → IsOrdered n s → c < n

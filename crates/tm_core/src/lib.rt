@@ -5,6 +5,7 @@ mod cell;
 mod cells;
 mod kind_laws;
 mod laws;
+mod log_laws;
 mod machine;
 mod step;
 
@@ -15,6 +16,10 @@ pub use kind_laws::{
 pub use laws::{
     SlotLog, answer_keeps_slots, collect_keeps_slots, first_slots_are_good, publish_keeps_slots,
     see_keeps_slots, steps_keep_slots,
+};
+pub use log_laws::{
+    batches_are_told, completions_are_of_launches, histories_tell_values, ids_never_return,
+    launches_are_latched, longer_logs_add, states_are_sound,
 };
 pub use machine::Core;
 pub use step::{Step, StepRefused};

@@ -1,7 +1,7 @@
 -- What holds of all logs, states and cores: the statements, each proved as the contract of a function that cites it.
-use Rattle.std.specs.Prelude.{◌≡◌, ℕ, ◌+◌, ◌^◌, ◌<◌, ◌≤◌, true, List, [], ◌∷◌, ◌++◌, length, map}
-use Rattle.std.specs.declared.option.Option.TheVariants.{Some}
-use Rattle.std.specs.List.{AllByRecursion, range_with_len}
+use Rattle.std.specs.Prelude.{◌≡◌, ℕ, nat_eq, ◌+◌, ◌^◌, ◌<◌, ◌≤◌, true, List, [], ◌∷◌, ◌++◌, length, map}
+use Rattle.std.specs.declared.option.Option.TheVariants.{None, Some}
+use Rattle.std.specs.List.{AllByRecursion, IsDistinct, range_with_len}
 use Rattle.std.specs.List.Sorted.{IsStrictlyIncreasing}
 use Rattle.tm_seq.specs.Kind.{Kind}
 use Rattle.tm_batch.specs.declared.config.Config.{Config}
@@ -15,6 +15,8 @@ use Rattle.tm_model.specs.State.{Object, State, total, object_of, place_of, plac
 use Rattle.tm_model.specs.Opening.{IsBuildable, opening_of}
 use Rattle.tm_model.specs.Serve.{state_after}
 use Rattle.tm_model.specs.Legal.{IsLegal}
+use Rattle.tm_model.specs.Lists.{IsPrefix}
+use Rattle.tm_model.specs.Given.{ids_given, tickets_given, ended_for, completions_in}
 use Rattle.tm_model.specs.History.{history_of, lived, first_value}
 use Rattle.tm_model.specs.Latched.{IsLatched}
 use Rattle.tm_model.specs.Slots.{Taken, Asked, MayPublish, slot_of, publish, see, collect, first_core}
@@ -91,6 +93,32 @@ module _ {V O R T : Type 0} where
     -- in a legal log launched work on each object is latched
     abbrev pub LaunchesAreLatched : Type 0
     LaunchesAreLatched = (opening : State V O R T) (log : List (Entry V O R T)) → IsOpening opening → IsLegal kind opening log → IsLatched log
+
+    -- a longer log only adds: what ran for a place, its answers and its answer batches go on
+    abbrev pub LongerLogsAdd : Type 0
+    LongerLogsAdd =
+        (opening : State V O R T) (log es : List (Entry V O R T)) (c : ℕ)
+        → IsPrefix (ran c log) (ran c (log ++ es)) × IsPrefix (answered c log) (answered c (log ++ es))
+        × IsPrefix (batches kind opening c log) (batches kind opening c (log ++ es))
+
+    -- ids and tickets are given out in order, each once; an id that was given out and is not live is never live again
+    abbrev pub IdsNeverReturn : Type 0
+    IdsNeverReturn =
+        (opening : State V O R T) (log es : List (Entry V O R T)) → IsOpening opening → IsLegal kind opening (log ++ es)
+        → (ids_given log ≡ range_with_len opening.next_id (length (ids_given log)))
+        × ((state_after kind opening log).next_id ≡ opening.next_id + length (ids_given log))
+        × (tickets_given log ≡ range_with_len 1 (length (tickets_given log)))
+        × ((state_after kind opening log).next_ticket ≡ 1 + length (tickets_given log))
+        × ((id : ℕ) → id < (state_after kind opening log).next_id → object_of (state_after kind opening log).live id ≡ None
+        → object_of (state_after kind opening (log ++ es)).live id ≡ None)
+
+    -- the completions that left for a place, and those that are ready, are those of its launches that ended, each once, in order
+    abbrev pub CompletionsAreOfLaunches : Type 0
+    CompletionsAreOfLaunches =
+        (opening : State V O R T) (log : List (Entry V O R T)) (c : ℕ) → IsOpening opening → IsLegal kind opening log
+        → c < place_count opening.setup
+        → (completions_in (batches kind opening c log) ++ (place_of (state_after kind opening log) c).ready ≡ ended_for c log)
+        × IsDistinct nat_eq (map (λ x. x.ticket) (ended_for c log))
 
     -- the answers of the batches that left for a place, and those that have not left, are the answers to its requests
     abbrev pub BatchesHaveAllAnswers : Type 0
