@@ -29,6 +29,7 @@ pub mod Numbering
 pub mod Ordered
 pub mod Places
 pub mod Promised
+pub mod Replies
 pub mod Rising
 pub mod Runs
 pub mod Showing

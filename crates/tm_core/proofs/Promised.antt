@@ -13,6 +13,7 @@ use Rattle.tm_batch.specs.declared.message.Request.{Request}
 use Rattle.tm_batch.specs.declared.message.Request.TheVariants.{Entrust, Apply, Launch, Grant, Release, Reclaim, Bye}
 use Rattle.tm_batch.specs.declared.message.Answer.{Answer}
 use Rattle.tm_batch.specs.declared.message.Answer.TheVariants.{Entrusted, Replied, Launched, Granted, Released, Reclaimed, ByeDone}
+use Rattle.tm_batch.specs.declared.message.AnswerBatch.{AnswerBatch}
 use Rattle.tm_model.specs.declared.entry.Entry.{Entry}
 use Rattle.tm_model.specs.declared.entry.Entry.TheVariants.{By, Resume, Sent}
 use Rattle.tm_model.specs.State.{Start, Object, State, place_count, holds_of, with_holds, total, change, object_of, holds_in, holds_at, IsHeld}
@@ -26,9 +27,9 @@ use Rattle.tm_model.specs.Entries.{entries_by, AreResumes}
 use Rattle.tm_model.specs.Holds.{Names, has_bye, answers_in, launches_in, gave, ended_in, came}
 use Rattle.tm_model.specs.Orderly.{IsOrderly}
 use Rattle.tm_model.specs.Good.{FullBox, FullSlot, FullCore, unserved, got_with, IsOutInOrder, IsGood}
-use Rattle.tm_model.specs.Laws.{IsOpening, IsTold, BatchesAreTold}
+use Rattle.tm_model.specs.Laws.{IsOpening, IsTold, BatchesAreTold, HeldAreLive}
 use Rattle.tm_core.proofs.Every.{found}
-use Rattle.tm_core.proofs.Tallies.{came_same, bye_in, gave-append, launches_in-append, bye_more}
+use Rattle.tm_core.proofs.Tallies.{came_more, came_same, bye_in, gave-append, launches_in-append, bye_more}
 use Rattle.tm_core.proofs.Rising.{holds_sum, holds_are_sum, sum_change, sum_kept}
 use Rattle.tm_core.proofs.Balance.{sum_released, sum_reclaimed, sum_appended}
 use Rattle.tm_core.proofs.AllAnswers.{batches_have_all_answers}
@@ -267,3 +268,20 @@ module _ {V O R T : Type 0} where
             subst (λ (x : FullBox V O R T). Agrees mark_of (batches kind opening) (IsLegal kind opening) x slot c core.log) e place.agrees in
             told kind opening core c b is good lt (ap unserved e) (ap (λ x. got_with x slot.got) e) agrees.1 out.0,
       )
+
+  -- what is answered and not yet got brings no less
+  came_with :
+      (opening : State V O R T) (c id : ℕ) (sent : List (Request V O R T)) (box : FullBox V O R T) (got : List (AnswerBatch V O R T))
+      → came opening c sent got id ≤ came opening c sent (got_with box got) id
+  came_with opening c id sent Empty got = omega arith
+  came_with opening c id sent (Asked b room) got = omega arith
+  came_with opening c id sent (Taken b room) got = omega arith
+  came_with opening c id sent (Answered a upto room) got = came_more opening c sent got a id
+
+  pub held_are_live : (kind : Kind V O R T) → HeldAreLive kind
+  held_are_live kind opening core c id is good lt still some =
+      let slot = slot_of core c in
+      let s = state_after kind opening core.log in
+      let was = (good.accounts c lt).holds still id in
+      let more = came_with opening c id slot.sent slot.box slot.got in
+      holds_one (object_of s.live id) c (omega (arith, was, more, some))

@@ -18,8 +18,9 @@ pub use laws::{
     see_keeps_slots, steps_keep_slots,
 };
 pub use log_laws::{
-    batches_are_told, completions_are_of_launches, histories_tell_values, ids_never_return,
-    launches_are_latched, longer_logs_add, states_are_sound,
+    batches_are_told, completions_are_of_launches, held_are_live, histories_tell_values,
+    ids_never_return, launches_are_latched, longer_logs_add, reclaims_are_of_histories,
+    replies_are_of_histories, resumes_are_of_histories, states_are_sound,
 };
 pub use machine::Core;
 pub use step::{Step, StepRefused};

@@ -1,7 +1,7 @@
 //! What holds of all legal logs of a trustee and of the states that they leave, for every kind of object.
 //!
 //! Nothing here runs: each function states a law.
-ghost use Rattle.tm_model.specs.Laws.{StatesAreSound, HistoriesTellValues, LaunchesAreLatched, BatchesAreTold, LongerLogsAdd, IdsNeverReturn, CompletionsAreOfLaunches};
+ghost use Rattle.tm_model.specs.Laws.{StatesAreSound, HistoriesTellValues, LaunchesAreLatched, BatchesAreTold, LongerLogsAdd, IdsNeverReturn, CompletionsAreOfLaunches, RepliesAreOfHistories, ResumesAreOfHistories, ReclaimsAreOfHistories, HeldAreLive};
 
 use tm_seq::Entrusted;
 
@@ -47,4 +47,28 @@ pub fn ids_never_return<S: Entrusted>()
 /// of the place that ended, in the order of their ends, and no two have one ticket.
 pub fn completions_are_of_launches<S: Entrusted>()
     ensures { CompletionsAreOfLaunches S.kind }
+{}
+
+/// Each reply of an apply in a legal log is lawful on the value that the history before it leaves:
+/// that of the kind's `step`, or one for want of memory.
+pub fn replies_are_of_histories<S: Entrusted>()
+    ensures { RepliesAreOfHistories S.kind }
+{}
+
+/// Each resume in a legal log is of the first unfinished task that the history before it leaves, and
+/// is lawful on its value: it does what the kind's `advance` says, or ends for want of memory.
+pub fn resumes_are_of_histories<S: Entrusted>()
+    ensures { ResumesAreOfHistories S.kind }
+{}
+
+/// A value that is taken back is the one that its history leaves, with no task unfinished, and its
+/// id is never live again.
+pub fn reclaims_are_of_histories<S: Entrusted>()
+    ensures { ReclaimsAreOfHistories S.kind }
+{}
+
+/// In a good core an id that a place holds by what it sent and got, before its Bye, is live and held
+/// by it.
+pub fn held_are_live<S: Entrusted>()
+    ensures { HeldAreLive S.kind }
 {}
