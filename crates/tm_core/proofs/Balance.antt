@@ -6,6 +6,7 @@ use Rattle.std.proofs.lemmas.Bool.{cases_eq, cases_lt}
 use Rattle.std.proofs.lemmas.List.{get_or_past}
 use Rattle.std.proofs.lemmas.List.Sums.{get_or-le-sum_by, sum_by-set}
 use Rattle.tm_model.specs.State.{Object, holds_of, with_holds, total, change, without, object_of, holds_in}
+use Rattle.tm_core.proofs.Every.{item_within}
 use Rattle.tm_core.proofs.Rising.{RisesTo, holds_sum, holds_are_sum, sum_change, sum_change_other, sum_changed}
 
 -- two places together hold no more than all
@@ -28,13 +29,6 @@ two_holds holds c d ne =
             | inl ld ↦ let le = get_or-le-sum_by (λ x. x) holds d 0 ld in omega (arith, none, le)
             | inr gd ↦ let no = get_or_past holds d 0 gd in omega (arith, none, no)
           ]
-    ]
-
-one_hold : (holds : List ℕ) (c : ℕ) → slice_index_or holds c 0 ≤ sum holds
-one_hold holds c =
-    elim (cases_lt c (length holds)) [
-      | inl lt ↦ get_or-le-sum_by (λ x. x) holds c 0 lt
-      | inr ge ↦ let none = get_or_past holds c 0 ge in omega (arith, none)
     ]
 
 module _ {V T : Type 0} where
@@ -154,7 +148,7 @@ module _ {V T : Type 0} where
             let was = sum_of n low next c i live x rises at in
             elim (cases_eq e c) [
               | inl ec ↦
-                  let most = one_hold x.holds e in
+                  let most = item_within x.holds e in
                   rw (← is, ← ec, eq-eqb e e refl, eq-eqb i i refl) (let was' = sum_of n low next e i live x rises at in let gone' = sum_without_own e i live in omega (arith, was', gone', most, one, all))
               | inr ne ↦
                   let two = two_holds x.holds e c (λ same. ne (sym same)) in

@@ -5,16 +5,22 @@ mod cell;
 mod cells;
 mod kind_laws;
 mod laws;
+mod log_laws;
 mod machine;
 mod step;
 
 pub use kind_laws::{
-    batches_have_all_answers, collect_keeps_good, first_is_good, growing_adds, legal_logs_join,
-    publish_keeps_good, requests_are_numbered, see_keeps_good,
+    answer_keeps_good, batches_have_all_answers, collect_keeps_good, first_is_good, growing_adds,
+    legal_logs_join, publish_keeps_good, requests_are_numbered, see_keeps_good,
 };
 pub use laws::{
     SlotLog, answer_keeps_slots, collect_keeps_slots, first_slots_are_good, publish_keeps_slots,
     see_keeps_slots, steps_keep_slots,
+};
+pub use log_laws::{
+    batches_are_told, completions_are_of_launches, held_are_live, histories_tell_values,
+    ids_never_return, launches_are_latched, longer_logs_add, reclaims_are_of_histories,
+    replies_are_of_histories, resumes_are_of_histories, states_are_sound,
 };
 pub use machine::Core;
 pub use step::{Step, StepRefused};
