@@ -4,6 +4,7 @@ ghost use Rattle.std.specs.BTreeSet.{btree_set_len};
 ghost use Rattle.mc_item.specs.Expiry.{is_expired};
 ghost use Rattle.mc_model.specs.Items.{is_live};
 ghost use Rattle.mc_shard.specs.Kept.{item_in, is_late, tells_due, goes_at, IsIndexed, IsAhead, TakesDue, KeepsEntries, KeepsOthers, IsSwept, IsSweptAt, LosesLate};
+ghost use Rattle.mc_shard.specs.Entries.{LacksOld};
 
 use mc_item::{Expiry, Key, expired};
 use mc_model::Item;
@@ -25,6 +26,7 @@ pub fn note(index: &mut BTreeSet<(u64, Key)>, due: Expiry, key: &Key) -> Result<
 pub fn unnote(index: &mut BTreeSet<(u64, Key)>, old: Expiry, due: Expiry, key: Key)
     ensures others { KeepsOthers key index.old.keys index.new.keys }
     ensures told { tells_due index.old.keys key due ≡ true → tells_due index.new.keys key due ≡ true }
+    ensures gone { LacksOld index.new.keys old due key }
 {
     if let Expiry::At(moment) = old
         && !goes_at(due, moment)
