@@ -1,10 +1,9 @@
 -- The steps of a plain class.
-use Rattle.std.proofs.Common.{◌≡◌, ℕ, Bool, true, false, cond, not, List, length, Option, Some, None, refl, sym, ap, ◌∙◌}
+use Rattle.std.proofs.Common.{◌≡◌, ℕ, Bool, true, false, cond, not, List, Option, Some, None, refl, sym, ap, ◌∙◌}
 use Rattle.std.specs.List.{filter}
 use Rattle.std.specs.Ordering.{nat_cmp, eq_by_cmp}
 use Rattle.std.specs.Cmp.{eq_by_cmp_equiv}
 use Rattle.std.specs.Cmp.Lexicographic.{slice_cmp}
-use Rattle.std.specs.FinMap.{get, insert, remove}
 use Rattle.std.specs.List.Sorted.{IsStrictlySortedBy}
 use Rattle.std.specs.Map.{keys_of}
 use Rattle.std.proofs.lemmas.Map.Keys.{IsDistinct-from_sorted}
@@ -12,9 +11,9 @@ use Rattle.std.proofs.lemmas.Map.Entries.{option_filter, lookup-filter-values}
 use Rattle.mc_item.specs.Expiry.{is_expired}
 use Rattle.mc_model.specs.declared.item.Item.{Item}
 use Rattle.mc_model.specs.declared.reply.ShardReply.{ShardReply}
-use Rattle.mc_model.specs.Items.{Items, no_items, item_at, live, with_key}
+use Rattle.mc_model.specs.Items.{Items, item_at, live, with_key}
 use Rattle.mc_model.specs.Rows.{KeyOp, Outcome, outcome_of}
-use Rattle.mc_model.specs.Class.{Class, is_flush_due, settled, after_key, outcome_at, key_step}
+use Rattle.mc_model.specs.Class.{Class, settled, after_key, outcome_at, key_step}
 use Rattle.mc_model.proofs.ItemFacts.{kept, total, same_items, item_at-with_key}
 use Rattle.mc_shard.specs.Kept.{item_in, IsOnePut, LosesKey}
 use Rattle.mc_shard.specs.Shard.{without_item}
