@@ -1,4 +1,3 @@
 pub mod Kept
-pub mod Entries
 pub mod Shard
 pub mod Laws
