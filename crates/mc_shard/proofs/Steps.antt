@@ -1,6 +1,6 @@
 -- The steps of the items, as they are seen from outside.
 use Rattle.mc_model.proofs.ItemFacts.{kept}
-use Rattle.std.proofs.Common.{◌≡◌, ℕ, ◌-◌, ◌≤◌, Bool, true, false, cond, not, ◌||◌, List, length, Option, Some, None, is_some, IsSome, IfSome, refl, sym, ap, subst, ◌∙◌}
+use Rattle.std.proofs.Common.{◌≡◌, ℕ, ◌-◌, ◌≤◌, Bool, true, false, cond, not, ◌||◌, List, length, Option, Some, None, is_some, IsSome, IfSome, option_map, refl, sym, ap, subst, ◌∙◌}
 use Rattle.std.specs.Ordering.{nat_cmp}
 use Rattle.std.specs.Cmp.{eq_by_cmp_equiv}
 use Rattle.std.specs.Cmp.Lexicographic.{slice_cmp}
@@ -13,9 +13,10 @@ use Rattle.mc_item.specs.declared.expiry.Expiry.TheVariants.{Never}
 use Rattle.mc_item.specs.Expiry.{is_expired}
 use Rattle.mc_model.specs.declared.item.Item.{Item}
 use Rattle.mc_model.specs.Items.{Items, is_live, live}
-use Rattle.mc_shard.specs.Kept.{Kept, item_in, tells_due, is_late, is_told, without, with_due, after_settle, after_put, after_change, after_expire, IsIndexed, IsSettled, IsInOrder, IsOnePut, SameItems, KeepsEntries, KeepsOthers, LosesKey, IsSwept, LosesLate}
+use Rattle.mc_shard.specs.Kept.{Kept, item_in, tells_due, is_late, is_told, without, with_due, after_settle, after_put, after_change, after_expire, IsIndexed, IsSettled, IsInOrder, IsTight, GainsEntry, LosesEntry, due_of, has_entry, IsOnePut, SameItems, KeepsOthers, LosesKey, IsSwept, LosesLate}
 use Rattle.mc_shard.proofs.Live.{total, same, same_key, same_key-comm, kept-kept, still_expired, live-insert, insert-insert, settled_at, settled_live, settled_put, settled_late, unless}
 use Rattle.mc_shard.proofs.Tree.{map_of, get-map_of, get-live_map_of, len-map_of, one_put, same_items, told_more, indexed_put, indexed_same, indexed_late}
+use Rattle.mc_shard.proofs.Tight.{FitsDue, fits_kept, tight_put, tight_late, tight_out, tight_same, tight_undone, indexed_undone}
 
 -- what entries at a moment are seen as
 abbrev pub kept_of : List (List ℕ × Item) → ℕ → Option (List ℕ) → Kept
@@ -69,9 +70,10 @@ settle_view moment now es ds fs late le settled loses swept = same _ _ (λ q.
 -- and then all is in order
 pub settle_in_order :
     (now : ℕ) (es fs : List (List ℕ × Item)) (index : List (ℕ × List ℕ)) (late : Option (List ℕ))
-    → map_of fs ≡ live now (map_of es) → IsIndexed fs index None → late ≡ None → IsInOrder fs index late now
-settle_in_order now es fs index late is indexed none = rw none (record {
+    → map_of fs ≡ live now (map_of es) → IsIndexed fs index None → IsTight fs index None → late ≡ None → IsInOrder fs index late now
+settle_in_order now es fs index late is indexed tight none = rw none (record {
   indexed = indexed;
+  tight = tight;
   settled = let P : Items → Type 0 = λ m. IsSettled now m None in subst P (sym is) (settled_live now (map_of es));
 })
 
@@ -95,9 +97,11 @@ put_view moment now es fs late late' key v stays put =
 pub put_in_order :
     (moment now : ℕ) (es fs : List (List ℕ × Item)) (index index' : List (ℕ × List ℕ)) (late : Option (List ℕ)) (key : List ℕ) (v : Item)
     → moment ≤ now → is_expired v.due now ≡ false → IsOnePut es fs key v → KeepsOthers key index index' → tells_due index' key v.due ≡ true
+    → FitsDue key v.due index index'
     → IsInOrder es index late moment → IsInOrder fs index' (unless late key) moment
-put_in_order moment now es fs index index' late key v le stays put more told h = record {
+put_in_order moment now es fs index index' late key v le stays put more told fits h = record {
   indexed = indexed_put es fs index index' late key v put more told h.indexed;
+  tight = tight_put es fs index index' late key v put fits h.tight;
   settled = let P : Items → Type 0 = λ m. IsSettled moment m (unless late key) in
       subst P (sym (one_put es fs key v put)) (settled_put moment (map_of es) late key v (is_live_before moment now v le stays) h.settled);
 }
@@ -146,6 +150,16 @@ change_view f moment now es fs late late' key stays there put =
 abbrev pub TellsChange : (Item → Item) → List (List ℕ × Item) → List (ℕ × List ℕ) → Option (List ℕ) → List ℕ → Type 0
 TellsChange f es index late key = (v : Item) → item_in es key ≡ Some v → is_late late key ≡ false → tells_due index key (f v).due ≡ true
 
+-- the entries of the key tell of an item after its change
+abbrev pub FitsChange : (Item → Item) → List (List ℕ × Item) → List ℕ → List (ℕ × List ℕ) → List (ℕ × List ℕ) → Type 0
+FitsChange f es key index index' = (v : Item) → item_in es key ≡ Some v → FitsDue key (f v).due index index'
+
+-- where the change keeps the due
+pub fits_change :
+    (f : Item → Item) (es : List (List ℕ × Item)) (index : List (ℕ × List ℕ)) (late : Option (List ℕ)) (key : List ℕ)
+    → ((v : Item) → (f v).due ≡ v.due) → IsTight es index late → FitsChange f es key index index
+fits_change f es index late key keeps tight v is = fits_kept es index late key (f v).due (keeps v ∙ sym (ap due_of is)) tight
+
 or_left_false : (a b : Bool) → a ≡ false → (a || b) ≡ true → b ≡ true
 or_left_false true b e h = absurd cc
 or_left_false false b e h = h
@@ -160,33 +174,45 @@ tells_kept f es index late key keeps indexed v is apart =
 in_order_by_item :
     (f : Item → Item) (moment now : ℕ) (es fs : List (List ℕ × Item)) (index index' : List (ℕ × List ℕ)) (late : Option (List ℕ)) (key : List ℕ) (o : Option Item)
     → item_in es key ≡ o → moment ≤ now → StaysLive f now → IsSome (kept now o) → IfSome o (λ v. IsOnePut es fs key (f v))
-    → KeepsOthers key index index' → TellsChange f es index' late key
+    → KeepsOthers key index index' → TellsChange f es index' late key → FitsChange f es key index index'
     → IsInOrder es index late moment → IsInOrder fs index' late moment
-in_order_by_item f moment now es fs index index' late key None is le stays there put more told h = absurd cc
-in_order_by_item f moment now es fs index index' late key (Some v) is le stays there put more told h =
+in_order_by_item f moment now es fs index index' late key None is le stays there put more told fits h = absurd cc
+in_order_by_item f moment now es fs index index' late key (Some v) is le stays there put more told fits h =
     let fresh = not_expired now v (live_of_some (is_live now (Some v)) v there) in
     let apart = not_late moment now es late key v le h.settled is fresh in
     let P : Option (List ℕ) → Type 0 = λ l. IsInOrder fs index' l moment in
     subst P (ap (λ b. cond b None late) apart)
-    (put_in_order moment now es fs index index' late key (f v) le (stays v fresh) put more (told v is apart) h)
+    (put_in_order moment now es fs index index' late key (f v) le (stays v fresh) put more (told v is apart) (fits v is) h)
 
 -- and before they go all is in order
 pub change_in_order :
     (f : Item → Item) (moment now : ℕ) (es fs : List (List ℕ × Item)) (index index' : List (ℕ × List ℕ)) (late : Option (List ℕ)) (key : List ℕ)
     → moment ≤ now → StaysLive f now → IsSome (get (live now (map_of es)) key) → IfSome (item_in es key) (λ v. IsOnePut es fs key (f v))
-    → KeepsOthers key index index' → TellsChange f es index' late key
+    → KeepsOthers key index index' → TellsChange f es index' late key → FitsChange f es key index index'
     → IsInOrder es index late moment → IsInOrder fs index' late moment
-change_in_order f moment now es fs index index' late key le stays there put more told h =
-    in_order_by_item f moment now es fs index index' late key (item_in es key) refl le stays (rw (← get-live_map_of now es key) there) put more told h
+change_in_order f moment now es fs index index' late key le stays there put more told fits h =
+    in_order_by_item f moment now es fs index index' late key (item_in es key) refl le stays (rw (← get-live_map_of now es key) there) put more told fits h
 
--- the same items, and an index that lacks no entry
+-- the same items, and the same index
 pub same_in_order :
     (moment : ℕ) (es fs : List (List ℕ × Item)) (index index' : List (ℕ × List ℕ)) (late : Option (List ℕ))
-    → SameItems es fs → KeepsEntries index index' → IsInOrder es index late moment → IsInOrder fs index' late moment
-same_in_order moment es fs index index' late alike more h = record {
-  indexed = indexed_same es fs index index' late alike more h.indexed;
+    → SameItems es fs → index' ≡ index → IsInOrder es index late moment → IsInOrder fs index' late moment
+same_in_order moment es fs index index' late alike same h = record {
+  indexed = indexed_same es fs index index' late alike (λ m q has. ap (λ i. has_entry i m q) same ∙ has) h.indexed;
+  tight = tight_same es fs index index' late alike (λ m q has. ap (λ i. has_entry i m q) (sym same) ∙ has) h.tight;
   settled = let P : Items → Type 0 = λ m. IsSettled moment m late in subst P (sym (same_items es fs alike)) h.settled;
 }
+
+-- the entry of a new item came and went
+pub undone_in_order :
+    (moment : ℕ) (es fs : List (List ℕ × Item)) (index more index' : List (ℕ × List ℕ)) (late : Option (List ℕ)) (key : List ℕ) (due : Expiry)
+    → fs ≡ es → item_in es key ≡ None → GainsEntry index more due key → LosesEntry more index' due Never key
+    → IsInOrder es index late moment → IsInOrder fs index' late moment
+undone_in_order moment es fs index more index' late key due same none gains loses h = rw same (record {
+  indexed = indexed_undone es index more index' late key due none gains loses h.indexed;
+  tight = tight_undone es index more index' late key due gains loses h.tight;
+  settled = h.settled;
+})
 
 -- ---- what is late
 
@@ -205,31 +231,40 @@ expire_view moment es fs late key due there put =
     expire_by_item moment es fs late key due (item_in es key) (rw (← get-map_of es key) there) put
     ∙ sym (ap (after_expire (kept_of es moment late) key due) (get-map_of es key))
 
+never_of : (due : Expiry) → ◌≡◌ {A = Option Expiry} (Some due) (Some Never) → due ≡ Never
+never_of due e = cc
+
 late_by_item :
     (moment : ℕ) (es fs : List (List ℕ × Item)) (index : List (ℕ × List ℕ)) (key : List ℕ) (due : Expiry) (o : Option Item)
-    → is_expired due moment ≡ true → IsSome o → IfSome o (λ v. IsOnePut es fs key (with_due due v))
+    → is_expired due moment ≡ true → item_in es key ≡ o → option_map (λ item. item.due) o ≡ Some Never → IfSome o (λ v. IsOnePut es fs key (with_due due v))
     → IsInOrder es index None moment → IsInOrder fs index (Some key) moment
-late_by_item moment es fs index key due None gone there put h = absurd cc
-late_by_item moment es fs index key due (Some v) gone there put h = record {
+late_by_item moment es fs index key due None gone is lasts put h = absurd cc
+late_by_item moment es fs index key due (Some v) gone is lasts put h = record {
   indexed = indexed_late es fs index key (with_due due v) put h.indexed;
+  tight = tight_late es fs index key (with_due due v) put (ap due_of is ∙ never_of v.due lasts) h.tight;
   settled = let P : Items → Type 0 = λ m. IsSettled moment m (Some key) in
       subst P (sym (one_put es fs key (with_due due v) put)) (settled_late moment (map_of es) key (with_due due v) (ap not gone) h.settled);
 }
 
 pub expire_in_order :
     (moment : ℕ) (es fs : List (List ℕ × Item)) (index : List (ℕ × List ℕ)) (late : Option (List ℕ)) (key : List ℕ) (due : Expiry)
-    → late ≡ None → is_expired due moment ≡ true → IsSome (get (map_of es) key) → IfSome (item_in es key) (λ v. IsOnePut es fs key (with_due due v))
+    → late ≡ None → is_expired due moment ≡ true → option_map (λ item. item.due) (get (map_of es) key) ≡ Some Never → IfSome (item_in es key) (λ v. IsOnePut es fs key (with_due due v))
     → IsInOrder es index late moment → IsInOrder fs index (Some key) moment
-expire_in_order moment es fs index late key due none gone there put h =
+expire_in_order moment es fs index late key due none gone lasts put h =
     let P : Option (List ℕ) → Type 0 = λ l. IsInOrder es index l moment in
-    late_by_item moment es fs index key due (item_in es key) gone (rw (← get-map_of es key) there) put (subst P none h)
+    late_by_item moment es fs index key due (item_in es key) gone refl (ap (option_map (λ (item : Item). item.due)) (sym (get-map_of es key)) ∙ lasts) put (subst P none h)
 
 get_put : (items : Items) (key : List ℕ) (v : Item) → get (insert items key v) key ≡ Some v
 get_put items key v = get-insert total items key v key ∙ ap (λ b. cond b (Some v) (get items key)) ((eq_by_cmp_equiv total).refl key)
 
--- what was put is there
-pub put_there : (items : Items) (key : List ℕ) (v : Item) → IsSome (get (insert items key v) key)
-put_there items key v = ap (λ o. is_some o) (get_put items key v)
+-- with its due
+pub put_lasts : (items : Items) (key : List ℕ) (v : Item) → option_map (λ item. item.due) (get (insert items key v) key) ≡ Some v.due
+put_lasts items key v = ap (option_map (λ (item : Item). item.due)) (get_put items key v)
+
+-- what lasts is there
+pub lasts_there : (o : Option Item) (due : Expiry) → option_map (λ item. item.due) o ≡ Some due → IsSome o
+lasts_there None due e = absurd cc
+lasts_there (Some v) due e = refl
 
 -- an item is put as one that never goes, and is then made one that is expired
 pub late_view :
@@ -254,16 +289,16 @@ pub late_change :
     ≡ after_change (with_due due) k now key (get (live now k.items) key)
 late_change k now key due gone there = late_by_change k now key due (get (live now k.items) key) gone there
 
-there_by_change :
-    (f : Item → Item) (k : Kept) (now : ℕ) (key : List ℕ) (o : Option Item) → IsSome o → IsSome (get (after_change f k now key o).items key)
-there_by_change f k now key None there = absurd cc
-there_by_change f k now key (Some v) there = put_there (live now k.items) key (f v)
+lasts_by_change :
+    (due : Expiry) (k : Kept) (now : ℕ) (key : List ℕ) (o : Option Item) → IsSome o → option_map (λ item. item.due) (get (after_change (with_due due) k now key o).items key) ≡ Some due
+lasts_by_change due k now key None there = absurd cc
+lasts_by_change due k now key (Some v) there = put_lasts (live now k.items) key (with_due due v)
 
--- an item that was changed is there
-pub change_there :
-    (f : Item → Item) (k : Kept) (now : ℕ) (key : List ℕ) → IsSome (get (live now k.items) key)
-    → IsSome (get (after_change f k now key (get (live now k.items) key)).items key)
-change_there f k now key there = there_by_change f k now key (get (live now k.items) key) there
+-- an item whose due was changed has it
+pub change_lasts :
+    (due : Expiry) (k : Kept) (now : ℕ) (key : List ℕ) → IsSome (get (live now k.items) key)
+    → option_map (λ item. item.due) (get (after_change (with_due due) k now key (get (live now k.items) key)).items key) ≡ Some due
+change_lasts due k now key there = lasts_by_change due k now key (get (live now k.items) key) there
 
 -- ---- taking out
 
@@ -289,14 +324,15 @@ out_settled moment false o h = h
 
 pub remove_in_order :
     (moment : ℕ) (es fs : List (List ℕ × Item)) (index index' : List (ℕ × List ℕ)) (late : Option (List ℕ)) (key : List ℕ)
-    → late ≡ None → LosesKey es fs key → KeepsOthers key index index'
+    → late ≡ None → LosesKey es fs key → KeepsOthers key index index' → FitsDue key Never index index'
     → IsInOrder es index late moment → IsInOrder fs index' late moment
 unfolding without
-remove_in_order moment es fs index index' late key none out more h =
+remove_in_order moment es fs index index' late key none out more fits h =
     let P : Option (List ℕ) → Type 0 = λ l. IsInOrder es index l moment in
     let g = subst P none h in
     rw none (record {
       indexed = λ q. ap (is_told index' None q) (out q) ∙ out_told index index' key q (item_in es q) more (g.indexed q);
+      tight = tight_out es fs index index' key out fits g.tight;
       settled = same _ _ (λ q.
           get-live_map_of moment fs q ∙ ap (kept moment) (out q)
           ∙ out_settled moment (is_at (slice_cmp nat_cmp key) q) (item_in es q) (ap (kept moment) (sym (get-map_of es q)) ∙ settled_at moment (map_of es) None q g.settled ∙ get-map_of es q)

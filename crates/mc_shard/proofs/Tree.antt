@@ -32,6 +32,11 @@ map_of es = from_entries {R = slice_cmp nat_cmp} es
 pub get-map_of : (es : List (List ℕ × Item)) (q : List ℕ) → get (map_of es) q ≡ item_in es q
 get-map_of es q = get-from_entries total es q ∙ find_item es q
 
+-- what is not some is none
+pub none_of_test : (o : Option Item) → is_some o ≡ false → o ≡ None
+none_of_test None e = refl
+none_of_test (Some item) e = absurd cc
+
 -- what the map has, the entries have
 pub there_in : (es : List (List ℕ × Item)) (q : List ℕ) → IsSome (get (map_of es) q) → IsSome (item_in es q)
 there_in es q h = rw (← get-map_of es q) h
@@ -173,7 +178,7 @@ more_entries index index' e h moment key has =
 
 -- ---- an entry less
 
-other_key : (a o : Ordering) → is_eq o ≡ false → is_eq (ordering_then a o) ≡ false
+pub other_key : (a o : Ordering) → is_eq o ≡ false → is_eq (ordering_then a o) ≡ false
 other_key Less o e = refl
 other_key Equal o e = e
 other_key Greater o e = refl

@@ -1,5 +1,5 @@
 -- The items that a class keeps, with the moment that they are of.
-use Rattle.std.specs.Prelude.{◌≡◌, ℕ, ◌<◌, ◌≤◌, Bool, true, false, ◌||◌, ◌==◌, if◌then◌else◌, List, ◌++◌, Option, Some, None, refl}
+use Rattle.std.specs.Prelude.{◌≡◌, ℕ, ◌<◌, ◌≤◌, Bool, true, false, not, ◌||◌, ◌&&◌, ◌==◌, if◌then◌else◌, List, ◌++◌, Option, Some, None, refl}
 use Rattle.std.specs.Coded.{Coded, code_by, coded×, coded_ℕ, coded_list, coded_option}
 use Rattle.std.specs.FinMap as map
 use Rattle.std.specs.List.{list_any}
@@ -120,6 +120,32 @@ is_told index late key (Some item) = is_late late key || tells_due index key ite
 abbrev pub IsIndexed : List (List ℕ × Item) → List (ℕ × List ℕ) → Option (List ℕ) → Type 0
 IsIndexed entries index late = (key : List ℕ) → is_told index late key (item_in entries key) ≡ true
 
+-- when an item goes, or never where there is none
+abbrev pub due_of : Option Item → Expiry
+due_of None = Never
+due_of (Some item) = item.due
+
+-- whether this is the entry of a key with this due
+abbrev pub is_entry : Expiry → List ℕ → ℕ → List ℕ → Bool
+is_entry Never key moment q = false
+is_entry (At due) key moment q = is_at (due_cmp (due, key)) (moment, q)
+
+-- whether a key with this is owed an entry at this moment: it has an item that goes then, and is not the late one
+abbrev pub is_owed : Option (List ℕ) → ℕ → List ℕ → Option Item → Bool
+is_owed late moment key o = if is_late late key then false else goes_at (due_of o) moment
+
+-- the index has no entry but those that are owed
+abbrev pub IsTight : List (List ℕ × Item) → List (ℕ × List ℕ) → Option (List ℕ) → Type 0
+IsTight entries index late = (moment : ℕ) (key : List ℕ) → has_entry index moment key ≡ true → is_owed late moment key (item_in entries key) ≡ true
+
+-- an index with the entry of a key with this due more
+abbrev pub GainsEntry : List (ℕ × List ℕ) → List (ℕ × List ℕ) → Expiry → List ℕ → Type 0
+GainsEntry old new due key = (moment : ℕ) (q : List ℕ) → has_entry new moment q ≡ (if is_entry due key moment q then true else has_entry old moment q)
+
+-- an index without the entry for when a key's item was to go, unless it goes then still
+abbrev pub LosesEntry : List (ℕ × List ℕ) → List (ℕ × List ℕ) → Expiry → Expiry → List ℕ → Type 0
+LosesEntry old new was due key = (moment : ℕ) (q : List ℕ) → has_entry new moment q ≡ (if is_entry was key moment q && not (goes_at due moment) then false else has_entry old moment q)
+
 -- an index that lacks no entry of another
 abbrev pub KeepsEntries : List (ℕ × List ℕ) → List (ℕ × List ℕ) → Type 0
 KeepsEntries old new = (moment : ℕ) (key : List ℕ) → has_entry old moment key ≡ true → has_entry new moment key ≡ true
@@ -134,7 +160,7 @@ IsAhead now index = (moment : ℕ) (key : List ℕ) → has_entry index moment k
 
 -- an entry of this key was taken out, whose moment has come
 abbrev pub TakesDue : ℕ → List (ℕ × List ℕ) → List (ℕ × List ℕ) → List ℕ → Type 0
-TakesDue now old new key = (due : ℕ) × (due ≤ now)
+TakesDue now old new key = (due : ℕ) × (due ≤ now) × (has_entry old due key ≡ true)
     × ((moment : ℕ) (q : List ℕ) → has_entry new moment q ≡ (if is_at (due_cmp (due, key)) (moment, q) then false else has_entry old moment q))
 
 -- what is expired has gone
@@ -173,4 +199,5 @@ SameItems old new = (q : List ℕ) → item_in new q ≡ item_in old q
 -- entries, an index and a late key that are in order at a moment
 pub record IsInOrder (entries : List (List ℕ × Item)) (index : List (ℕ × List ℕ)) (late : Option (List ℕ)) (moment : ℕ) : Type 0 where
   pub indexed : IsIndexed entries index late
+  pub tight : IsTight entries index late
   pub settled : IsSettled moment (map.from_entries entries) late

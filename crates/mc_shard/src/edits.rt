@@ -1,6 +1,6 @@
 //! Changes of one item where it stands.
-ghost use Rattle.std.specs.Prelude.{◌≡◌, OnOk, OnErr, IfSome, IsSome};
-ghost use Rattle.mc_shard.specs.Kept.{item_in, appended, prepended, rewritten, with_due, IsOnePut, LosesKey, SameItems};
+ghost use Rattle.std.specs.Prelude.{◌≡◌, OnOk, OnErr, IfErr, IfSome, IsSome};
+ghost use Rattle.mc_shard.specs.Kept.{item_in, due_of, appended, prepended, rewritten, with_due, IsOnePut, LosesKey, SameItems};
 
 use mc_item::{Bytes, Expiry, Key};
 use mc_model::Item;
@@ -53,7 +53,8 @@ pub fn rewrite_at(items: &mut BTreeMap<Key, Item>, key: &Key, value: Bytes, cas:
 
 /// Lets an item go at another moment, and tells when it was to go.
 pub fn set_due_at(items: &mut BTreeMap<Key, Item>, key: &Key, due: Expiry) -> Expiry
-    ensures { IfSome (item_in items.old.entries key.now) (λ item. IsOnePut items.old.entries items.new.entries key.now (with_due due item)) }
+    ensures was { result ≡ due_of (item_in items.old.entries key.now) }
+    ensures put { IfSome (item_in items.old.entries key.now) (λ item. IsOnePut items.old.entries items.new.entries key.now (with_due due item)) }
 {
     match items.get_mut(key) {
         Some(item) => {
@@ -68,7 +69,8 @@ pub fn set_due_at(items: &mut BTreeMap<Key, Item>, key: &Key, due: Expiry) -> Ex
 /// Puts an item in the place of one, and tells when that one was to go.
 pub fn replace_at(items: &mut BTreeMap<Key, Item>, key: &Key, item: Item) -> Expiry
     requires { IsSome (item_in items.old.entries key.now) }
-    ensures { IsOnePut items.old.entries items.new.entries key.now item }
+    ensures was { result ≡ due_of (item_in items.old.entries key.now) }
+    ensures put { IsOnePut items.old.entries items.new.entries key.now item }
 {
     match items.get_mut(key) {
         Some(place) => {
@@ -80,9 +82,22 @@ pub fn replace_at(items: &mut BTreeMap<Key, Item>, key: &Key, item: Item) -> Exp
     }
 }
 
+/// Puts an item for a key. An `Err` hands both back, and leaves all as it was.
+pub fn insert_at(items: &mut BTreeMap<Key, Item>, key: Key, item: Item) -> Result<(), (Key, Item)>
+    ensures ok { OnOk result (IsOnePut items.old.entries items.new.entries key item) }
+    ensures err { OnErr result (items.new.entries ≡ items.old.entries) }
+    ensures back { IfErr result (λ back. back ≡ (key, item)) }
+{
+    match items.insert(key, item) {
+        Ok(_old) => Ok(()),
+        Err(failed) => Err(failed.value),
+    }
+}
+
 /// Takes an item out, and tells when it was to go.
 pub fn take_out(items: &mut BTreeMap<Key, Item>, key: &Key) -> Expiry
-    ensures { LosesKey items.old.entries items.new.entries key.now }
+    ensures was { result ≡ due_of (item_in items.old.entries key.now) }
+    ensures loses { LosesKey items.old.entries items.new.entries key.now }
 {
     match items.remove(key) {
         Some(item) => item.due,

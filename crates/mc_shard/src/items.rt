@@ -1,11 +1,14 @@
 //! The items of a class, by their keys and in the order in which they go.
-ghost use Rattle.std.specs.Prelude.{◌≡◌, ◌≤◌, true, false, Some, None, OnOk, OnErr, IfSome, IsSome, option_copied};
+ghost use Rattle.std.specs.Prelude.{◌≡◌, ◌≤◌, true, false, Some, None, OnOk, OnErr, IfSome, IsSome, option_copied, option_map};
 ghost use Rattle.std.specs.FinMap as map;
+ghost use Rattle.mc_item.specs.declared.expiry.Expiry.TheVariants.{Never};
 ghost use Rattle.mc_item.specs.Expiry.{is_expired};
 ghost use Rattle.mc_model.specs.Items.{live};
 ghost use Rattle.mc_shard.specs.Kept.{none_at, after_settle, after_put, after_change, after_remove, after_expire, appended, prepended, rewritten, with_due};
 
-use crate::edits::{append_at, prepend_at, replace_at, rewrite_at, set_due_at, take_out};
+use crate::edits::{
+    append_at, insert_at, prepend_at, replace_at, rewrite_at, set_due_at, take_out,
+};
 use crate::sweep::{forget, is_late, note, sweep, take_late, unnote};
 use mc_item::{Bytes, Expiry, Key, expired};
 use mc_model::Item;
@@ -18,7 +21,7 @@ use std::marker::Model;
 #[derive(Drop)]
 pub struct Items {
     map: BTreeMap<Key, Item>,
-    // When each item goes. An entry may be stale: its item has gone, or goes at another moment.
+    // When each item goes, but for the late one.
     index: BTreeSet<(u64, Key)>,
     // The key whose item was put already expired.
     late: Option<Key>,
@@ -138,19 +141,27 @@ impl Items {
         }
     }
 
-    // Puts an item for a new key. What can fail comes first: a stale entry is harmless.
+    // Puts an item for a new key. What can fail comes first.
     fn insert_live(&mut self, key: Key, item: Item, now: u64) -> Result<(), AllocError>
         requires moment { self.old.moment ≤ now }
         requires live { is_expired item.due now ≡ false }
+        requires absent { map.get self.old.items key ≡ None }
         ensures ok { OnOk result (self.new ≡ after_put self.old now key item) }
         ensures err { OnErr result (self.new ≡ self.old) }
     {
         note(&mut self.index, item.due, &key)?;
         let was_late = is_late(&self.late, &key);
-        self.map.insert(key, item)?;
-        forget(&mut self.late, was_late);
-        self.settle(now);
-        Ok(())
+        match insert_at(&mut self.map, key, item) {
+            Ok(()) => {
+                forget(&mut self.late, was_late);
+                self.settle(now);
+                Ok(())
+            }
+            Err((key, item)) => {
+                unnote(&mut self.index, item.due, Expiry::Never, key);
+                Err(AllocError)
+            }
+        }
     }
 
     // Puts an item in the place of one. What can fail comes first.
@@ -193,7 +204,7 @@ impl Items {
     fn expire(&mut self, key: Key, due: Expiry)
         requires none_late { self.old.late ≡ None }
         requires expired { is_expired due self.old.moment ≡ true }
-        requires there { IsSome (map.get self.old.items key) }
+        requires lasting { option_map (λ item. item.due) (map.get self.old.items key) ≡ Some Never }
         ensures { self.new ≡ after_expire self.old key due (map.get self.old.items key) }
     {
         set_due_at(&mut self.map, &key, due);

@@ -32,6 +32,13 @@ impl Entrusted for Shard {
 
     ghost laws = { shard_laws };
 
+    /// Runs an operation. A `NoMemory` leaves all as it was.
+    ///
+    /// The cost is a logarithm of the number of items, and a copy of the value's bytes where the
+    /// operation stores or gets them, joins them to others or writes a number. An item that was put
+    /// is taken out once more when it expires, at the cost of a logarithm, by the first operation
+    /// after. `Count` looks at no item. A `Flush` that is done, and one that comes due, drops all
+    /// items.
     fn run(&mut self, op: ShardOp) -> ShardReply
         ensures { IsRun shard_kind self.old op self.new result }
     {

@@ -1,19 +1,21 @@
 //! Takes out what is expired, by the index of when each item goes.
-ghost use Rattle.std.specs.Prelude.{◌≡◌, ℕ, ◌<◌, ◌≤◌, ◌+◌, true, false, Some, None, if◌then◌else◌, IsTrue, OnOk, IfSome, IfNone, slice_get, is_some};
+ghost use Rattle.std.specs.Prelude.{◌≡◌, ℕ, ◌<◌, ◌≤◌, ◌+◌, true, false, Some, None, if◌then◌else◌, IsTrue, OnOk, OnErr, IfSome, IfNone, slice_get, is_some};
 ghost use Rattle.std.specs.BTreeSet.{btree_set_len};
 ghost use Rattle.mc_item.specs.Expiry.{is_expired};
 ghost use Rattle.mc_model.specs.Items.{is_live};
-ghost use Rattle.mc_shard.specs.Kept.{item_in, is_late, tells_due, goes_at, IsIndexed, IsAhead, TakesDue, KeepsEntries, KeepsOthers, IsSwept, IsSweptAt, LosesLate};
+ghost use Rattle.mc_shard.specs.Kept.{item_in, is_late, tells_due, goes_at, IsIndexed, IsTight, GainsEntry, LosesEntry, IsAhead, TakesDue, KeepsEntries, KeepsOthers, IsSwept, IsSweptAt, LosesLate};
 
 use mc_item::{Expiry, Key, expired};
 use mc_model::Item;
 use std::alloc::AllocError;
 use std::collections::{BTreeMap, BTreeSet};
 
-/// Notes in the index when an item goes. An `Err` may leave an entry that is stale.
+/// Notes in the index when an item goes. An `Err` leaves the index as it was.
 pub fn note(index: &mut BTreeSet<(u64, Key)>, due: Expiry, key: &Key) -> Result<(), AllocError>
     ensures more { KeepsEntries index.old.keys index.new.keys }
     ensures told { OnOk result (tells_due index.new.keys key.now due ≡ true) }
+    ensures gains { OnOk result (GainsEntry index.old.keys index.new.keys due key.now) }
+    ensures same { OnErr result (index.new.keys ≡ index.old.keys) }
 {
     if let Expiry::At(moment) = due {
         index.insert((moment, key.clone()?))?;
@@ -25,6 +27,7 @@ pub fn note(index: &mut BTreeSet<(u64, Key)>, due: Expiry, key: &Key) -> Result<
 pub fn unnote(index: &mut BTreeSet<(u64, Key)>, old: Expiry, due: Expiry, key: Key)
     ensures others { KeepsOthers key index.old.keys index.new.keys }
     ensures told { tells_due index.old.keys key due ≡ true → tells_due index.new.keys key due ≡ true }
+    ensures gone { LosesEntry index.old.keys index.new.keys old due key }
 {
     if let Expiry::At(moment) = old
         && !goes_at(due, moment)
@@ -83,9 +86,11 @@ fn drop_expired(items: &mut BTreeMap<Key, Item>, key: &Key, now: u64)
 
 /// Takes out what is expired. The cost is that of the entries whose moment has come.
 pub fn sweep(items: &mut BTreeMap<Key, Item>, index: &mut BTreeSet<(u64, Key)>, now: u64)
-    requires { IsIndexed items.old.entries index.old.keys None }
+    requires indexed { IsIndexed items.old.entries index.old.keys None }
+    requires tight { IsTight items.old.entries index.old.keys None }
     ensures swept { IsSwept now items.old.entries items.new.entries }
     ensures indexed { IsIndexed items.new.entries index.new.keys None }
+    ensures tight { IsTight items.new.entries index.new.keys None }
 {
     while let Some(key) = pop_due(index, now) {
         drop_expired(items, &key, now);

@@ -49,7 +49,7 @@ impl Shard {
     }
 
     /// Adds to the number that a value spells, or takes from it. An `Err` leaves all as it was.
-    pub fn change(
+    pub(crate) fn change(
         &mut self,
         up: bool,
         key: &Key,
@@ -75,7 +75,12 @@ impl Shard {
     }
 
     /// Lets an item go at another moment. An `Err` leaves all as it was.
-    pub fn touch(&mut self, key: Key, exptime: i64, moment: u64) -> Result<ShardReply, AllocError>
+    pub(crate) fn touch(
+        &mut self,
+        key: Key,
+        exptime: i64,
+        moment: u64,
+    ) -> Result<ShardReply, AllocError>
         ensures ok { IfOk result (λ reply. (self.new, reply) ≡ key_step self.old key (Touch exptime) moment) }
         ensures err { OnErr result (self.new ≡ self.old) }
     {
@@ -89,7 +94,7 @@ impl Shard {
     }
 
     /// Takes an item out.
-    pub fn delete(&mut self, key: Key, moment: u64) -> ShardReply
+    pub(crate) fn delete(&mut self, key: Key, moment: u64) -> ShardReply
         ensures { (self.new, result) ≡ key_step self.old key Delete moment }
     {
         if self.found(&key, moment).is_none() {

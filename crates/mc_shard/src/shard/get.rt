@@ -25,7 +25,7 @@ impl Shard {
     }
 
     /// Gets the item of a key. An `Err` leaves all as it was.
-    pub fn get(&mut self, key: &Key, moment: u64) -> Result<ShardReply, AllocError>
+    pub(crate) fn get(&mut self, key: &Key, moment: u64) -> Result<ShardReply, AllocError>
         ensures ok { IfOk result (λ reply. (self.new, reply) ≡ key_step self.old key.now Get moment) }
         ensures err { OnErr result (self.new ≡ self.old) }
     {

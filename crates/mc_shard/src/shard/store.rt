@@ -80,7 +80,7 @@ impl Shard {
     }
 
     /// Runs a storage command. An `Err` leaves all as it was.
-    pub fn store(
+    pub(crate) fn store(
         &mut self,
         how: How,
         key: Key,

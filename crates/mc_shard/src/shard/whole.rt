@@ -7,7 +7,7 @@ use mc_model::ShardReply;
 
 impl Shard {
     /// Lets all items go, at once or after so many seconds.
-    pub fn flush(&mut self, delay: u32, moment: u64) -> ShardReply
+    pub(crate) fn flush(&mut self, delay: u32, moment: u64) -> ShardReply
         ensures { (self.new, result) ≡ flush_step self.old delay moment }
     {
         self.settle(moment);
@@ -16,7 +16,7 @@ impl Shard {
     }
 
     /// Counts the items, and tells how many stores there were.
-    pub fn count(&mut self, moment: u64) -> ShardReply
+    pub(crate) fn count(&mut self, moment: u64) -> ShardReply
         ensures { (self.new, result) ≡ count_step self.old moment }
     {
         self.settle(moment);

@@ -5,4 +5,4 @@ use Rattle.mc_shard.proofs.items.Items.clear.Goals as goal
 
 pub invariant_of-self : goal.invariant_of-self
 unfolding without
-invariant_of-self c = rw c.clear.ensures.empty (record { indexed = λ key. refl; settled = live-empty c.args.now })
+invariant_of-self c = rw (c.clear.ensures.empty, c.clear-2.ensures.empty) (record { indexed = λ key. refl; tight = λ moment key has. absurd cc; settled = live-empty c.args.now })
