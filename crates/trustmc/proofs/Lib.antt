@@ -1,0 +1,7 @@
+pub mod Quitting
+pub mod Commands
+pub mod Servings
+pub mod Cuts
+pub mod Sources
+pub mod Endings
+pub mod Rounds

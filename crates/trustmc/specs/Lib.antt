@@ -1,3 +1,6 @@
+pub mod Answering
+pub mod Ends
+pub mod Going
 pub mod Input
 pub mod Runs
 pub mod Statuses

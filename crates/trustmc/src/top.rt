@@ -3,8 +3,9 @@ ghost use Rattle.std.specs.Prelude.{◌≡◌, ◌≢◌};
 ghost use Rattle.tm_base.specs.Causes.{Rose};
 ghost use Rattle.trustmc.specs.Runs.{AreLawful, most_input, told, Does};
 
-use crate::connection::{End, Stop, answer_all};
+use crate::connection::{End, answer_all};
 use crate::status::Status;
+use crate::stop::Stop;
 use crate::words::are_lawful;
 use std::alloc::Global;
 use tm_base::{Clock, Gate, Sink, Source};
