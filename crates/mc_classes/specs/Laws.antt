@@ -1,5 +1,5 @@
 -- 64 classes are one map of all keys: what a client is replied by the classes, the plain store may reply.
-use Rattle.std.specs.Prelude.{◌≡◌, ℕ, ◌^◌, ◌≤◌, List, [], length}
+use Rattle.std.specs.Prelude.{ℕ, ◌^◌, ◌≤◌, List}
 use Rattle.mc_model.specs.declared.message.Command.{Command}
 use Rattle.mc_model.specs.declared.reply.ShardReply.{ShardReply}
 use Rattle.mc_model.specs.Moments.{moments_of}

@@ -1,0 +1,13 @@
+pub mod Settling
+pub mod Agreement
+pub mod Parts
+pub mod Lengths
+pub mod Sums
+pub mod Outcomes
+pub mod Stores
+pub mod Rounds
+pub mod Flushes
+pub mod Cover
+pub mod Counts
+pub mod Commands
+pub mod Runs
