@@ -4,3 +4,9 @@
 //! definitions stand in `specs/`, and each function states a law, that a client can't tell the classes from one map
 //! of all keys. `flush_all` and `stats` go over the classes in order; where memory is wanting, they stop.
 #![tactic(auto)]
+
+mod laws;
+
+pub use laws::{
+    classes_reply_as_one, classes_run_as_one, classes_stand_later, first_classes_stand,
+};
