@@ -17,7 +17,7 @@ use Rattle.mc_grammar.proofs.ReadFacts.{reads_rest}
 use Rattle.mc_grammar.proofs.Spellings.{each_text_reads, reads_extend}
 use Rattle.mc_classes.specs.Classes.{new_classes}
 use Rattle.mc_classes.specs.Replies.{ClassesRun}
-use Rattle.mc_classes.specs.Laws.{ClassesRunAsOne}
+use Rattle.mc_classes.proofs.Runs.{run_as_one}
 use Rattle.mc_session.specs.Session.{Serving}
 use Rattle.trustmc.specs.declared.connection.End.{End}
 use Rattle.trustmc.specs.declared.connection.End.TheVariants.{Between, Inside, TooMuch}
@@ -32,18 +32,18 @@ use Rattle.trustmc.proofs.Servings.{grows_none}
 use Rattle.trustmc.proofs.Sources.{none_came, whole_so_far}
 
 -- the plain store has the replies of the classes
-outputs_of : ClassesRunAsOne → (messages : List Message) (readings : List ℕ) (replies : List (List ShardReply)) (classes : List Class) → ClassesRun new_classes (commands_of messages) (moments_of readings) replies classes → Outputs messages readings (rendered (shown_of_all messages replies))
-outputs_of law messages readings replies classes run =
-    let p = law (commands_of messages) readings replies classes run in
+outputs_of : (messages : List Message) (readings : List ℕ) (replies : List (List ShardReply)) (classes : List Class) → ClassesRun new_classes (commands_of messages) (moments_of readings) replies classes → Outputs messages readings (rendered (shown_of_all messages replies))
+outputs_of messages readings replies classes run =
+    let p = run_as_one (commands_of messages) readings replies classes run in
     record { replies = replies; store = p.0; runs = p.1; shows = refl }
 
-module _ (law : ClassesRunAsOne) (most : ℕ) (input input_new clock clock_new written written_new : Option (List ℕ)) where
+module _ (most : ℕ) (input input_new clock clock_new written written_new : Option (List ℕ)) where
   answered : (bytes : List ℕ) (quit : Bool) (reader : Progress) (session : Serving) (s : IsServed bytes quit clock clock_new written written_new reader session) → session.out ≡ [] → AreAnswered s.messages (told input clock written) (told input_new clock_new written_new)
   answered bytes quit reader session s out = record {
     readings = s.readings;
     output = rendered (shown_of_all s.messages s.replies);
     is_read = s.clock_read;
-    outputs = outputs_of law s.messages s.readings s.replies session.classes s.runs;
+    outputs = outputs_of s.messages s.readings s.replies session.classes s.runs;
     is_written = subst (λ (l : List ℕ). Grows written written_new l) (sym (append-nil s.sent) ∙ ap (λ (o : List ℕ). s.sent ++ o) (sym out) ∙ s.gathered) s.is_written;
   }
 
@@ -110,7 +110,7 @@ module _ (law : ClassesRunAsOne) (most : ℕ) (input input_new clock clock_new w
             once = c.once;
             output = rendered (shown_of_all c.messages c.replies);
             is_read = c.clock_read;
-            outputs = outputs_of law c.messages c.readings c.replies c.classes c.runs;
+            outputs = outputs_of c.messages c.readings c.replies c.classes c.runs;
             is_written = c.is_written;
           };
         }

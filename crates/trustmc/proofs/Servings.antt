@@ -1,5 +1,6 @@
 -- A connection that has answered some bytes, and then more.
-use Rattle.std.proofs.Common.{◌≡◌, ℕ, Bool, true, false, List, [], ◌∷◌, ◌++◌, Option, Some, refl, sym, ap, subst, ◌∙◌, append_assoc}
+use Rattle.std.proofs.Common.{◌≡◌, ℕ, Bool, true, false, List, [], ◌∷◌, ◌++◌, length, take, drop, ◌+◌, ◌-◌, Option, Some, Result, Ok, Err, refl, sym, ap, subst, ◌∙◌, append_assoc}
+use Rattle.std.specs.Prelude.{OnOk}
 use Rattle.std.proofs.lemmas.List.{append-nil}
 use Rattle.tm_base.specs.Told.{Grows}
 use Rattle.mc_model.specs.declared.message.Command.{Command}
@@ -18,10 +19,12 @@ use Rattle.mc_grammar.specs.declared.reader.Next.TheVariants as next
 use Rattle.mc_grammar.specs.Progress.{Start}
 use Rattle.mc_grammar.specs.Reading.{IsRead, ReadsOn, ReadsItem, Comes, ReadsNext}
 use Rattle.mc_grammar.proofs.ReadFacts.{none_read}
+use Rattle.mc_grammar.proofs.Piecewise.{from_place}
 use Rattle.mc_classes.specs.Classes.{new_classes}
 use Rattle.mc_classes.specs.Replies.{ClassesReply, ClassesRun}
 use Rattle.mc_session.specs.Session.{Serving, first_serving, with_shown, Answered}
 use Rattle.trustmc.specs.declared.answering.Heard.{Heard}
+use Rattle.trustmc.specs.declared.answering.Heard.TheVariants.{All, Quit}
 use Rattle.trustmc.specs.Answering.{is_quit_heard, AnswersNext, IsFlushed, last_moment, IsServed, ServesOn}
 use Rattle.trustmc.proofs.Quitting.{has_more, until_more}
 use Rattle.trustmc.proofs.Commands.{moments_more, last_moment_more, commands_more, commands_same, runs_more, shown_more, shown_fault}
@@ -146,6 +149,15 @@ flushed_none session written = record { sent = []; is_written = grows_none writt
 pub flushed_all : (session new : Serving) (written written_new : Option (List ℕ)) → Grows written written_new session.out → new.out ≡ [] → new.classes ≡ session.classes → new.moment ≡ session.moment → IsFlushed session written written_new new
 flushed_all session new written written_new g out classes moment = record { sent = session.out; is_written = g; gathered = ap (λ (o : List ℕ). session.out ++ o) out ∙ append-nil session.out; classes = classes; moment = moment }
 
+pub flushed_ok : {T E : Type 0} (r : Result T E) (session new : Serving) (written written_new : Option (List ℕ)) → OnOk r (Grows written written_new session.out) → OnOk r (new.out ≡ []) → new.classes ≡ session.classes → new.moment ≡ session.moment → OnOk r (IsFlushed session written written_new new)
+flushed_ok (Ok t) session new written written_new g out classes moment = flushed_all session new written written_new g out classes moment
+flushed_ok (Err e) session new written written_new g out classes moment = tt
+
+-- what is no `quit`
+pub all_heard : (h : Heard) → (h ≡ Quit → ⊥) → h ≡ All
+all_heard All not = refl
+all_heard Quit not = absurd (not refl)
+
 pub serves_none : (reader : Progress) (session : Serving) (clock written : Option (List ℕ)) → ServesOn reader session [] false clock clock written written reader session
 unfolding ServesOn
 serves_none reader session clock written bytes clock_first written_first s = rw (append-nil bytes) s
@@ -159,6 +171,17 @@ module _ (reader : Progress) (session : Serving) (piece : List ℕ) (clock clock
   serves_next more u v n heard clock_later new serves on comes reads a bytes clock_first written_first s =
       subst (λ (b : List ℕ). IsServed b (is_quit_heard heard) clock_first clock_later written_first written_new v new) (append_assoc bytes piece more)
       (served_next (bytes ++ piece) clock_first clock_new written_first written_new q t (serves bytes clock_first written_first s) more u v n heard clock_later new on comes reads a)
+
+  -- a message more of a piece
+  pub serves_at :
+      (whole : List ℕ) (at taken : ℕ) (u v : Progress) (n : Next) (heard h : Heard) (clock_later : Option (List ℕ)) (new : Serving) → piece ≡ take at whole → heard ≡ h
+      → ServesOn reader session piece false clock clock_new written written_new q t
+      → ReadsOn q (take taken (take (length whole - at) (drop at whole))) u → Comes u n v → ReadsNext u n v → AnswersNext t n clock_new clock_later heard new
+      → ServesOn reader session (take (at + taken) whole) (is_quit_heard h) clock clock_later written written_new v new
+  serves_at whole at taken u v n heard h clock_later new is e serves on comes reads a =
+      let more = take taken (take (length whole - at) (drop at whole)) in
+      let next : ServesOn reader session (piece ++ more) (is_quit_heard heard) clock clock_later written written_new v new = serves_next more u v n heard clock_later new serves on comes reads a in
+      rw (← e, ← from_place at taken whole, ← is) next
 
   pub serves_flushed :
       (quit : Bool) (written_later : Option (List ℕ)) (new : Serving) → ServesOn reader session piece quit clock clock_new written written_new q t → IsFlushed t written_new written_later new

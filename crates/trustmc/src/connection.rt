@@ -77,9 +77,6 @@ pub fn answer_all<A: Source, B: Sink, W: Clock, G: Gate>(
         }
         let fed = within(came, left);
         let heard = answer_piece(&mut reader, &mut session, &buffer[..fed], output, clock, gate)?;
-        let Ok(()) = session.write_out(output) else {
-            return Err(Stop::WriteFault);
-        };
         if let Heard::Quit = heard {
             return Ok(End::Between);
         }

@@ -15,6 +15,9 @@ mod words;
 pub use status::Status;
 pub use top::top_in_turns;
 
+#[cfg(test)]
+mod tests;
+
 
 use std::process::ExitCode;
 use std::{env, io};

@@ -1,7 +1,7 @@
 use Rattle.std.proofs.Common.{◌≡◌, ◌≤◌, ◌-◌, false, length, take}
 use Rattle.mc_grammar.specs.Progress.{IsUnfinished}
 use Rattle.trustmc.specs.Answering.{ServesOn}
-use Rattle.trustmc.proofs.piece.answer_piece.Given as goal
+use Rattle.trustmc.proofs.piece.answer_messages.Given as goal
 
 abbrev pub invariant-loop-at : goal.invariant-loop-at
 invariant-loop-at g l = record {
