@@ -1,5 +1,5 @@
 //! One connection: its input is read as it comes, and what lies whole in it is answered before the next read.
-ghost use Rattle.std.specs.Prelude.{◌≡◌, ◌≢◌, min};
+ghost use Rattle.std.specs.Prelude.{◌≡◌, ◌≢◌, min, vec_len, IfOk};
 ghost use Rattle.tm_base.specs.Causes.{Rose};
 ghost use Rattle.trustmc.specs.declared.status.Status.TheVariants as status;
 ghost use Rattle.trustmc.specs.Ends.{status_of, IsEndAt};
@@ -10,7 +10,7 @@ use crate::piece::answer_piece;
 use crate::stop::Stop;
 use mc_grammar::Reader;
 use mc_session::Session;
-use std::alloc::Global;
+use std::alloc::{AllocError, Global};
 use tm_base::{Clock, Gate, Sink, Source};
 
 /// How many bytes each read asks for.
@@ -25,6 +25,13 @@ pub enum End {
     Inside,
     /// There are more bytes than are read.
     TooMuch,
+}
+
+// Room for one read.
+fn read_buffer(alloc: Global) -> Result<Vec<u8>, AllocError>
+    ensures { IfOk result (λ buffer. vec_len buffer ≡ 65536) }
+{
+    vec![in alloc; 0u8; BUFFER]
 }
 
 // So many of the bytes that came are within the limit.
@@ -44,6 +51,7 @@ fn end_of(reader: &Reader) -> End
 /// Answers an input, at most its first `most` bytes, to its end or to a `quit`.
 ///
 /// Before each read all that came whole is answered and written. An `Err` leaves a front of the output written.
+#[tactic(none)]
 pub fn answer_all<A: Source, B: Sink, W: Clock, G: Gate>(
     alloc: Global,
     most: u64,
@@ -63,7 +71,7 @@ pub fn answer_all<A: Source, B: Sink, W: Clock, G: Gate>(
     let Ok(mut session) = Session::new(alloc) else {
         return Err(Stop::NoMemory);
     };
-    let Ok(mut buffer) = vec![in alloc; 0u8; BUFFER] else {
+    let Ok(mut buffer) = read_buffer(alloc) else {
         return Err(Stop::NoMemory);
     };
     let mut reader = Reader::new(alloc);

@@ -5,7 +5,7 @@ use std::process::Abort;
 use std::test::Fail;
 
 // Inputs at one moment that end between two commands, and their outputs.
-const ROWS: [(&str, &str); 21] = [
+const ROWS: [(&str, &str); 22] = [
     ("", ""),
     ("set a 5 0 3~abc~get a~", "STORED~VALUE a 5 3~abc~END~"),
     // Each change gives the next cas number of the key's class.
@@ -65,6 +65,15 @@ const ROWS: [(&str, &str); 21] = [
     (
         "set a 0 0 1~z~get a b a~",
         "STORED~VALUE a 0 1~z~VALUE a 0 1~z~END~",
+    ),
+    // Each command once.
+    (
+        "set a 0 0 1~5~add b 0 0 1~x~replace b 0 0 1~y~append b 0 0 1~z~prepend b 0 0 1~w~\
+        incr a 2~decr a 1~gets a~cas a 0 0 1 225~9~get a b~touch a 100~delete b~verbosity 1~\
+        flush_all~stats~version~quit~",
+        "STORED~STORED~STORED~STORED~STORED~7~6~VALUE a 0 1 225~6~END~STORED~\
+        VALUE a 0 1~9~VALUE b 0 3~wyz~END~TOUCHED~DELETED~OK~OK~\
+        STAT curr_items 0~STAT total_items 6~END~VERSION 1.0.0-trust~",
     ),
     // What stands behind a `quit` is not looked at.
     ("version~quit~get a~", "VERSION 1.0.0-trust~"),
