@@ -1,1 +1,4 @@
+pub mod Asking
+pub mod Slots
+pub mod Answers
 pub mod Session

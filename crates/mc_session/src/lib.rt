@@ -2,6 +2,16 @@
 //! gathered.
 #![tactic(auto)]
 
+mod answering;
+mod asking;
+mod counting;
+mod flushing;
+mod getting;
+mod keyed;
+mod request;
 mod session;
+mod showing;
+mod slot;
+mod trustee;
 
 pub use session::Session;

@@ -1,23 +1,30 @@
-//! STAND-IN, never lands: it has the contract of the real session, and always lacks memory.
-ghost use Rattle.std.specs.Prelude.{◌≡◌, ◌↔◌, ◌≤◌, [], ◌++◌, length, IsTrue, IfOk, OnOk, OnErr};
+//! A session: each command is answered, and the bytes of what it shows are gathered.
+ghost use Rattle.std.specs.Prelude.{◌≡◌, ◌↔◌, ◌≤◌, ◌++◌, ℕ, [], ◌∷◌, length, IsTrue, IfOk, OnOk, OnErr};
 ghost use Rattle.tm_base.specs.Causes.{HasCause};
 ghost use Rattle.tm_base.specs.Told.{Grows, GrowsByFront};
+ghost use Rattle.mc_model.specs.Moments.{latest};
 ghost use Rattle.mc_model.specs.Showing.{shown_of_fault};
 ghost use Rattle.mc_session.specs.Session.{first_serving, with_shown, Answered, GaveUp};
 
+use crate::asking::Asking;
+use crate::showing::fault_shown;
 use mc_item::Bytes;
 use mc_model::{Command, Fault};
-use mc_shard::Shard;
+use mc_reply::render;
 use std::alloc::{AllocError, Global};
 use std::marker::Model;
 use tm_base::{Clock, Failed, Gate, Sink, write_all};
 
+/// A reading of the clock above this counts as this.
+const LATEST: u64 = 1 << 62;
+
 /// So many bytes are gathered, at most one reply more, before they are written.
 const FULL: usize = 65_536;
 
-/// A session, seen as the states of its classes, its moment, and the bytes that are still to be written.
+/// What a session has: the classes, its moment, and the bytes that are still to be written. It is seen as these.
 pub struct Session {
-    shards: Vec<Shard>,
+    alloc: Global,
+    asking: Asking,
     moment: u64,
     out: Bytes,
 }
@@ -29,46 +36,78 @@ impl Model for Session {
 
     ghost coded = { serving_code };
 
-    ghost view = { λ s. record { classes = s.shards.items; moment = s.moment; out = s.out } };
+    ghost view = { λ s. record { classes = s.asking; moment = s.moment; out = s.out } };
 }
 
 // Written out, so that a caller's proof sees one call.
 impl Drop for Session {
     fn drop(self) {
-        let Session { shards, moment: _, out } = self;
-        drop(shards);
+        let Session {
+            alloc: _,
+            asking,
+            moment: _,
+            out,
+        } = self;
+        drop(asking);
         drop(out);
     }
 }
 
 impl Session {
-    /// A session before any command.
-    pub fn new(_alloc: Global) -> Result<Session, AllocError>
+    /// A session before any command, at moment 0: 64 empty classes, and a trustee that owns them.
+    pub fn new(alloc: Global) -> Result<Session, AllocError>
         ensures { IfOk result (λ s. s ≡ first_serving) }
     {
-        Err(AllocError)
+        let asking = Asking::new(alloc)?;
+        Ok(Session {
+            alloc,
+            asking,
+            moment: 0,
+            out: Bytes::new(alloc),
+        })
     }
 
-    /// Answers one command.
+    // Reads the clock, and moves on to the moment that it tells.
+    fn tick<W: Clock>(&mut self, clock: &mut W) -> u64
+        ensures moment { self.new.moment ≡ result }
+        ensures classes { self.new.classes ≡ self.old.classes }
+        ensures out { self.new.out ≡ self.old.out }
+        ensures reads { (reading : ℕ)
+            × Grows (W.readings clock.old) (W.readings clock.new) (reading ∷ [])
+            × (result ≡ latest self.old.moment reading) }
+    {
+        let reading = clock.now();
+        self.moment = self.moment.max(reading.min(LATEST));
+        self.moment
+    }
+
+    /// Answers one command: the clock is read, the classes are asked, and the bytes of what the command shows are put
+    /// behind those that are still to be written. `quit` shows nothing; that it is the last is for the caller to see.
+    ///
+    /// Each operation passes the gate as `at(1, n)`, where `n` of them were run before: one for each key, 64 for
+    /// `flush_all` and for `stats` unless memory is wanting, and none for `version`, `verbosity` and `quit`. A value is
+    /// copied once, out of its item. An `Err`, for want of memory, leaves the bytes that are still to be written.
     pub fn answer<W: Clock, G: Gate>(
         &mut self,
         command: Command,
-        _clock: &mut W,
-        _gate: &G,
+        clock: &mut W,
+        gate: &G,
     ) -> Result<(), AllocError>
-        ensures ok { OnOk result (Answered self.old command (W.readings _clock.old) (W.readings _clock.new) self.new) }
-        ensures err { OnErr result (GaveUp self.old (W.readings _clock.old) (W.readings _clock.new) self.new) }
+        ensures ok { OnOk result (Answered self.old command (W.readings clock.old) (W.readings clock.new) self.new) }
+        ensures err { OnErr result (GaveUp self.old (W.readings clock.old) (W.readings clock.new) self.new) }
     {
-        drop(command);
-        Err(AllocError)
+        let moment = self.tick(clock);
+        let shown = self.asking.answer(self.alloc, command, moment, gate)?;
+        render(&shown, &mut self.out)
     }
 
-    /// Shows a fault.
-    pub fn show_fault(&mut self, _fault: Fault) -> Result<(), AllocError>
-        ensures ok { OnOk result (self.new ≡ with_shown self.old (shown_of_fault _fault)) }
+    /// Puts the bytes of what a fault shows behind those that are still to be written. The clock is not read, and no
+    /// class is asked. An `Err`, for want of memory, leaves all as it was.
+    pub fn show_fault(&mut self, fault: Fault) -> Result<(), AllocError>
+        ensures ok { OnOk result (self.new ≡ with_shown self.old (shown_of_fault fault)) }
         ensures err { OnErr result (self.new ≡ self.old) }
     {
-        Err(AllocError)
+        render(&fault_shown(fault), &mut self.out)
     }
 
     /// Whether at least 65,536 bytes are gathered.

@@ -1,0 +1,5 @@
+use Rattle.mc_session.proofs.Gets.{GotSoFar}
+use Rattle.mc_session.proofs.asking.Asking.get_all.Given as goal
+
+abbrev pub invariant-loop-key : goal.invariant-loop-key
+invariant-loop-key g l = GotSoFar l.initial.self l.yielded l.moment l.self l.found.items l.found.lacks_memory

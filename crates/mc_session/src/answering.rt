@@ -1,0 +1,57 @@
+//! One command: what is asked for it, and what it shows.
+ghost use Rattle.std.specs.Prelude.{IfOk};
+ghost use Rattle.mc_session.specs.Answers.{IsAnswer};
+
+use crate::asking::Asking;
+use crate::showing::{
+    change_shown, delete_shown, flush_shown, shown_unless, stats_shown, store_shown, touch_shown,
+};
+use mc_model::{Command, Said, Shown};
+use std::alloc::{AllocError, Global};
+use tm_base::Gate;
+
+impl Asking {
+    /// Asks the classes what a command asks for, and says what it shows.
+    pub fn answer<G: Gate>(
+        &mut self,
+        alloc: Global,
+        command: Command,
+        moment: u64,
+        gate: &G,
+    ) -> Result<Shown, AllocError>
+        ensures { IfOk result (λ shown. IsAnswer self.old command moment self.new shown) }
+    {
+        match command {
+            Command::Store {
+                how,
+                key,
+                flags,
+                exptime,
+                value,
+                quiet,
+            } => {
+                let reply = self.store(how, key, flags, exptime, value, moment, gate);
+                Ok(store_shown(how, quiet, reply))
+            }
+            Command::Get { keys, with_cas } => self.get_all(alloc, keys, with_cas, moment, gate),
+            Command::Delete { key, quiet } => {
+                Ok(delete_shown(quiet, self.delete(key, moment, gate)))
+            }
+            Command::Change { up, key, by, quiet } => {
+                Ok(change_shown(quiet, self.change(up, key, by, moment, gate)))
+            }
+            Command::Touch {
+                key,
+                exptime,
+                quiet,
+            } => Ok(touch_shown(quiet, self.touch(key, exptime, moment, gate))),
+            Command::FlushAll { delay, quiet } => {
+                Ok(flush_shown(quiet, self.flush_all(delay, moment, gate)))
+            }
+            Command::Stats => Ok(stats_shown(self.count_all(moment, gate))),
+            Command::Version => Ok(Shown::Line(Said::Version)),
+            Command::Verbosity { quiet } => Ok(shown_unless(quiet, Said::Ok)),
+            Command::Quit => Ok(Shown::Nothing),
+        }
+    }
+}

@@ -1,0 +1,86 @@
+//! The operations on one key, each asked at the key's class.
+ghost use Rattle.mc_model.specs.Rows.{Store, Get, Change, Touch, Delete};
+ghost use Rattle.mc_classes.specs.Replies.{IsClassPart};
+
+use crate::asking::Asking;
+use mc_item::{Bytes, Key, class_of};
+use mc_model::{How, ShardReply};
+use mc_shard::ShardOp;
+use tm_base::Gate;
+
+impl Asking {
+    /// Asks for a storage command.
+    pub fn store<G: Gate>(
+        &mut self,
+        how: How,
+        key: Key,
+        flags: u32,
+        exptime: i64,
+        value: Bytes,
+        moment: u64,
+        gate: &G,
+    ) -> ShardReply
+        ensures { IsClassPart self.old (key, Store how flags exptime value) moment self.new result }
+    {
+        let class = class_of(&key);
+        let op = ShardOp::Store {
+            how,
+            key,
+            flags,
+            exptime,
+            value,
+            moment,
+        };
+        self.ask(class, op, gate)
+    }
+
+    /// Asks for the item of a key.
+    pub fn get<G: Gate>(&mut self, key: Key, moment: u64, gate: &G) -> ShardReply
+        ensures { IsClassPart self.old (key, Get) moment self.new result }
+    {
+        let class = class_of(&key);
+        self.ask(class, ShardOp::Get { key, moment }, gate)
+    }
+
+    /// Asks for an `incr` where `up`, else for a `decr`.
+    pub fn change<G: Gate>(
+        &mut self,
+        up: bool,
+        key: Key,
+        by: u64,
+        moment: u64,
+        gate: &G,
+    ) -> ShardReply
+        ensures { IsClassPart self.old (key, Change up by) moment self.new result }
+    {
+        let class = class_of(&key);
+        let op = ShardOp::Change {
+            up,
+            key,
+            by,
+            moment,
+        };
+        self.ask(class, op, gate)
+    }
+
+    /// Asks that an item goes at another moment.
+    pub fn touch<G: Gate>(&mut self, key: Key, exptime: i64, moment: u64, gate: &G) -> ShardReply
+        ensures { IsClassPart self.old (key, Touch exptime) moment self.new result }
+    {
+        let class = class_of(&key);
+        let op = ShardOp::Touch {
+            key,
+            exptime,
+            moment,
+        };
+        self.ask(class, op, gate)
+    }
+
+    /// Asks that the item of a key goes.
+    pub fn delete<G: Gate>(&mut self, key: Key, moment: u64, gate: &G) -> ShardReply
+        ensures { IsClassPart self.old (key, Delete) moment self.new result }
+    {
+        let class = class_of(&key);
+        self.ask(class, ShardOp::Delete { key, moment }, gate)
+    }
+}
