@@ -22,6 +22,10 @@ use Rattle.trustmc.proofs.Cuts.{cut_here}
 use Rattle.trustmc.proofs.Sources.{none_came, more_came, same_came, all_came, whole_so_far, within_most}
 use Rattle.trustmc.proofs.Endings.{ends_early, ends_failed, ends_over, ends_quit, ends_cut}
 
+-- what is Ok is no Err
+pub ok_no_err : {T E : Type 0} (t : T) (e : E) (r : Result T E) → r ≡ Ok t → r ≢ Err e
+ok_no_err t e r p q = absurd (cc)
+
 pub first_going : (most : ℕ) (input clock written : Option (List ℕ)) → IsGoing most most input input clock clock written written Start first_serving
 first_going most input clock written = record {
   text = [];

@@ -51,7 +51,6 @@ fn end_of(reader: &Reader) -> End
 /// Answers an input, at most its first `most` bytes, to its end or to a `quit`.
 ///
 /// Before each read all that came whole is answered and written. An `Err` leaves a front of the output written.
-#[tactic(none)]
 pub fn answer_all<A: Source, B: Sink, W: Clock, G: Gate>(
     alloc: Global,
     most: u64,
