@@ -6,7 +6,7 @@ use Rattle.mc_model.specs.declared.message.Message.{Message}
 use Rattle.mc_model.specs.declared.line.Saying.{Saying}
 use Rattle.mc_model.specs.declared.line.Saying.TheVariants.{Alone, Awaits}
 use Rattle.mc_model.specs.Line.{IsLine, HasNoEnd, says}
-use Rattle.mc_model.specs.Stream.{Spells, Completes, IsBlock, stored, OneSpelling, OneReading, Reads, Spelled, IsPartial, EachTextReads}
+use Rattle.mc_model.specs.Stream.{Spells, Completes, IsBlock, stored, OneSpelling, OneReading, Reads, Spelled, IsPartial, EachTextReads, ReadsExtend}
 use Rattle.mc_grammar.proofs.LineFacts.{same_line, line_some, ended, first_line}
 
 -- two blocks of one size that begin alike are one
@@ -155,7 +155,24 @@ reads_some (suc n) bytes le = elim (front bytes) [
 pub each_text_reads : EachTextReads
 each_text_reads bytes = reads_some (length bytes) bytes (omega arith)
 
+-- messages, and then others
+pub spelled_append : (ms ns : List Message) (f g : List ℕ) → Spelled f ms → Spelled g ns → Spelled (f ++ g) (ms ++ ns)
+spelled_append [] ns f g s t = subst (λ (b : List ℕ). Spelled (b ++ g) ns) (sym s) t
+spelled_append (y ∷ ms) ns f g s t = (s.0, s.1 ++ g, ap (λ b. b ++ g) s.2 ∙ append_assoc s.0 s.1 g, s.3, spelled_append ms ns s.1 g s.4 t)
+
 -- one message more
 pub spelled_more : (ms : List Message) (f g : List ℕ) (m : Message) → Spelled f ms → Spells g m → Spelled (f ++ g) (ms ++ m ∷ [])
-spelled_more [] f g m s p = (g, [], ap (λ b. b ++ g) s ∙ sym (append-nil g), p, refl)
-spelled_more (y ∷ ms) f g m s p = (s.0, s.1 ++ g, ap (λ b. b ++ g) s.2 ∙ append_assoc s.0 s.1 g, s.3, spelled_more ms s.1 g m s.4 p)
+spelled_more ms f g m s p = spelled_append ms (m ∷ []) f g s (g, [], sym (append-nil g), p, refl)
+
+pub reads_extend : ReadsExtend
+reads_extend bytes more messages rest r =
+    let e = each_text_reads (rest ++ more) in (
+      e.0,
+      e.1,
+      record {
+        front = r.front ++ e.2.front;
+        parts = ap (λ b. b ++ more) r.parts ∙ append_assoc r.front rest more ∙ ap (λ b. r.front ++ b) e.2.parts ∙ sym (append_assoc r.front e.2.front e.1);
+        spelled = spelled_append messages e.0 r.front e.2.front r.spelled e.2.spelled;
+        partial = e.2.partial;
+      },
+    )

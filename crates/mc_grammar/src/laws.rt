@@ -1,5 +1,5 @@
 //! Laws of the grammar.
-ghost use Rattle.mc_model.specs.Stream.{OneSpelling, OneReading, EachTextReads};
+ghost use Rattle.mc_model.specs.Stream.{OneSpelling, OneReading, EachTextReads, ReadsExtend};
 
 /// No spelling begins another, and one spelling spells one message.
 pub fn one_spelling()
@@ -14,4 +14,9 @@ pub fn one_reading()
 /// Each text has a reading.
 pub fn each_text_reads()
     ensures { EachTextReads }
+{}
+
+/// A longer text reads as the messages of its front, and then more.
+pub fn reads_extend()
+    ensures { ReadsExtend }
 {}

@@ -14,7 +14,7 @@ mod reader;
 mod tests;
 
 pub use held::{Filling, Front};
-pub use laws::{each_text_reads, one_reading, one_spelling};
+pub use laws::{each_text_reads, one_reading, one_spelling, reads_extend};
 pub use pieces::{Reading, read_pieces};
 pub use plain::read_plainly;
 pub use progress::Progress;

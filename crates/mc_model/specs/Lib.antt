@@ -5,7 +5,6 @@ pub mod Class
 pub mod Showing
 pub mod Rendering
 pub mod Plain
-pub mod Strict
 pub mod Commands
 pub mod Line
 pub mod Stream

@@ -72,3 +72,9 @@ OneReading =
 -- each text has a reading
 abbrev pub EachTextReads : Type 0
 EachTextReads = (bytes : List ℕ) → (messages : List Message) × (rest : List ℕ) × Reads bytes messages rest
+
+-- where a text reads as some messages, each longer text that begins with it reads as these and then more
+abbrev pub ReadsExtend : Type 0
+ReadsExtend =
+    (bytes more : List ℕ) (messages : List Message) (rest : List ℕ) → Reads bytes messages rest →
+    (others : List Message) × (end : List ℕ) × Reads (bytes ++ more) (messages ++ others) end

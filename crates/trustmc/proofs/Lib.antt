@@ -1,5 +1,7 @@
-pub mod SlotFacts
-pub mod InputFacts
-pub mod AnswerFacts
-pub mod Simulation
-pub mod Serving
+pub mod Quitting
+pub mod Commands
+pub mod Servings
+pub mod Cuts
+pub mod Sources
+pub mod Endings
+pub mod Rounds

@@ -1,5 +1,5 @@
 -- What came of a source.
-use Rattle.std.specs.Prelude.{◌≡◌, ℕ, ◌<◌, List, [], ◌++◌, length, Option, Some}
+use Rattle.std.specs.Prelude.{◌≡◌, ℕ, List, [], ◌++◌, Option, Some}
 
 -- where the source tells its bytes: these came, and the rest is still to come
 unfoldable pub CameSoFar : Option (List ℕ) → Option (List ℕ) → List ℕ → Type 0
@@ -8,7 +8,3 @@ CameSoFar before now text = (bytes : List ℕ) → before ≡ Some bytes → (re
 -- where the source tells its bytes: these are all of them, and all came
 unfoldable pub CameWhole : Option (List ℕ) → Option (List ℕ) → List ℕ → Type 0
 CameWhole before now text = (bytes : List ℕ) → before ≡ Some bytes → (bytes ≡ text) × (now ≡ Some [])
-
--- where the source tells its bytes: there are more than these
-unfoldable pub IsAbove : ℕ → Option (List ℕ) → Type 0
-IsAbove most before = (bytes : List ℕ) → before ≡ Some bytes → most < length bytes

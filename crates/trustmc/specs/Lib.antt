@@ -1,6 +1,6 @@
-pub mod Requests
-pub mod Slots
+pub mod Answering
+pub mod Ends
+pub mod Going
 pub mod Input
-pub mod Answers
 pub mod Runs
 pub mod Statuses

@@ -1,84 +1,124 @@
--- What a run of the program does. A device is named by what it told before the run, and then by what it tells after it.
-use Rattle.std.specs.Prelude.{◌≡◌, ℕ, ◌≤◌, ◌<◌, ◌⊎◌, List, [], ◌∷◌, ◌++◌, length, map, take, Option, Some, codes, string_bytes, String}
+-- What a run of the program does.
+use Rattle.std.specs.Prelude.{◌≡◌, ◌≢◌, ℕ, ◌≤◌, ◌<◌, ◌⊎◌, true, false, List, [], ◌∷◌, ◌++◌, length, map, take, Option, Some, codes, string_bytes, String}
 use Rattle.std.specs.declared.alloc.Global.{Global}
-use Rattle.std.specs.List.{flat_map}
-use Rattle.tm_base.specs.Told.{Stays, Grows}
-use Rattle.mc_model.specs.declared.message.Command.{Command}
-use Rattle.mc_model.specs.declared.message.Message.TheVariants as message
+use Rattle.tm_base.specs.Told.{Grows}
+use Rattle.mc_model.specs.declared.message.Message.{Message}
 use Rattle.mc_model.specs.declared.reply.ShardReply.{ShardReply}
 use Rattle.mc_model.specs.Moments.{moments_of}
-use Rattle.mc_model.specs.Showing.{shown_of_all}
-use Rattle.mc_model.specs.Rendering.{bytes_of}
+use Rattle.mc_model.specs.Stream.{Reads}
+use Rattle.mc_model.specs.Quits.{has_quit, until_quit}
+use Rattle.mc_model.specs.Showing.{commands_of, shown_of_all}
+use Rattle.mc_model.specs.Rendering.{rendered}
 use Rattle.mc_model.specs.Plain.{Plain, new_store, Runs}
-use Rattle.trustmc.specs.Input.{CameWhole}
-use Rattle.mc_strict.specs.Parsing.{IsOnlyReading, IsNotStrict}
+use Rattle.trustmc.specs.declared.status.Status.{Status}
+use Rattle.trustmc.specs.declared.status.Status.TheVariants.{Ended, BadWords, NoMemory, ReadFault, WriteFault, TooMuch, EndedInside}
+use Rattle.trustmc.specs.Input.{CameSoFar, CameWhole}
 
 -- the words of the only command as yet
 abbrev pub AreLawful : List (String Global) → Type 0
 AreLawful words = map (λ w. string_bytes w) words ≡ codes "run" ∷ codes "--turns" ∷ []
 
--- the most bytes of an input that is read as yet
+-- the most bytes of an input that are answered
 abbrev pub most_input : ℕ
-most_input = 65536
+most_input = 1099511627776
 
--- the bytes that show commands which had these replies, one list for each
-abbrev pub shown_bytes : List Command → List (List ShardReply) → List ℕ
-shown_bytes commands replies = flat_map bytes_of (shown_of_all (map (λ c. message.Command c) commands) replies)
+-- what the devices of a run tell: the bytes still to come, the readings of the clock, and the bytes written
+pub record Told : Type 0 where
+  pub input : Option (List ℕ)
+  pub clock : Option (List ℕ)
+  pub output : Option (List ℕ)
 
--- The plain store ran the commands, each at the moment of its reading, and this output shows the replies.
-pub record Outputs (commands : List Command) (readings : List ℕ) (output : List ℕ) : Type 0 where
+abbrev pub told : Option (List ℕ) → Option (List ℕ) → Option (List ℕ) → Told
+told input clock output = record { input = input; clock = clock; output = output }
+
+-- ---- what is answered
+
+-- The plain store ran the commands among the messages, each at the moment of its reading, and this output shows all messages.
+pub record Outputs (messages : List Message) (readings : List ℕ) (output : List ℕ) : Type 0 where
   pub replies : List (List ShardReply)
   pub store : Plain
-  pub runs : Runs new_store commands (moments_of readings) replies store
-  pub shows : output ≡ shown_bytes commands replies
+  pub runs : Runs new_store (commands_of messages) (moments_of readings) replies store
+  pub shows : output ≡ rendered (shown_of_all messages replies)
 
--- The clock was read once for each command, and the output of all of them is written.
-pub record AreAnswered (commands : List Command) (clock clock_new written written_new : Option (List ℕ)) : Type 0 where
+-- The clock was read once for each command, and the output of all messages is written.
+pub record AreAnswered (messages : List Message) (before after : Told) : Type 0 where
   pub readings : List ℕ
   pub output : List ℕ
-  pub is_read : Grows clock clock_new readings
-  pub outputs : Outputs commands readings output
-  pub is_written : Grows written written_new output
+  pub is_read : Grows before.clock after.clock readings
+  pub outputs : Outputs messages readings output
+  pub is_written : Grows before.output after.output output
 
 -- a front of an output is written
 abbrev pub WritesFront : Option (List ℕ) → Option (List ℕ) → List ℕ → Type 0
-WritesFront written written_new output =
-    (before : List ℕ) → written ≡ Some before → (count : ℕ) × (written_new ≡ Some (before ++ take count output))
+WritesFront old new output = (written : List ℕ) → old ≡ Some written → (count : ℕ) × (new ≡ Some (written ++ take count output))
 
--- Of the output of some of the commands, from the first on, a front is written. The clock may have been read for one more.
-pub record AreBegun (commands : List Command) (clock clock_new written written_new : Option (List ℕ)) : Type 0 where
-  pub seen : List Command
-  pub unseen : List Command
-  pub parts : commands ≡ seen ++ unseen
+-- Of the output of some of the messages, from the first on, a front is written. The clock may have been read once more.
+pub record AreBegun (messages : List Message) (before after : Told) : Type 0 where
+  pub seen : List Message
+  pub unseen : List Message
+  pub parts : messages ≡ seen ++ unseen
   pub readings : List ℕ
-  pub more_readings : List ℕ
+  pub last_reading : List ℕ
+  pub once : length last_reading ≤ 1
   pub output : List ℕ
-  pub is_read : Grows clock clock_new (readings ++ more_readings)
+  pub is_read : Grows before.clock after.clock (readings ++ last_reading)
   pub outputs : Outputs seen readings output
-  pub is_written : WritesFront written written_new output
+  pub is_written : WritesFront before.output after.output output
 
--- All input came, and it is these strict commands and no others.
-pub record IsReadAs (input input_new : Option (List ℕ)) (commands : List Command) : Type 0 where
+-- ---- what was read
+
+-- This text came of the input so far, and its first `most` bytes read as these messages and a rest.
+pub record IsReadAs (most : ℕ) (before after : Told) (text : List ℕ) (messages : List Message) (rest : List ℕ) : Type 0 where
+  pub came : CameSoFar before.input after.input text
+  pub reads : Reads (take most text) messages rest
+
+-- The messages up to the first `quit` are answered, where text, messages and rest end so.
+pub record IsAnswered (most : ℕ) (before after : Told) (Ends : List ℕ → List Message → List ℕ → Type 0) : Type 0 where
   pub text : List ℕ
-  pub came : CameWhole input input_new text
-  pub fits : length text ≤ most_input
-  pub strict : IsOnlyReading text commands
+  pub messages : List Message
+  pub rest : List ℕ
+  pub is_read : IsReadAs most before after text messages rest
+  pub ends : Ends text messages rest
+  pub answered : AreAnswered (until_quit messages) before after
 
--- all input is strict commands, and they are answered
-abbrev pub IsWhole : Option (List ℕ) → Option (List ℕ) → Option (List ℕ) → Option (List ℕ) → Option (List ℕ) → Option (List ℕ) → Type 0
-IsWhole input input_new clock clock_new written written_new =
-    (commands : List Command) × IsReadAs input input_new commands × AreAnswered commands clock clock_new written written_new
+-- The messages up to the first `quit` are answered as far as it came.
+pub record IsBegun (most : ℕ) (before after : Told) : Type 0 where
+  pub text : List ℕ
+  pub messages : List Message
+  pub rest : List ℕ
+  pub is_read : IsReadAs most before after text messages rest
+  pub begun : AreBegun (until_quit messages) before after
 
--- all input is strict commands, and a front of their output is written
-abbrev pub IsFront : Option (List ℕ) → Option (List ℕ) → Option (List ℕ) → Option (List ℕ) → Option (List ℕ) → Option (List ℕ) → Type 0
-IsFront input input_new clock clock_new written written_new =
-    (commands : List Command) × IsReadAs input input_new commands × AreBegun commands clock clock_new written written_new
+-- ---- how it ends
 
--- nothing is written, and the clock is not read
-pub record IsSilent (clock clock_new written written_new : Option (List ℕ)) : Type 0 where
-  pub not_read : Stays clock clock_new
-  pub not_written : Stays written written_new
+-- the input ended within `most` bytes, without a `quit`
+pub record IsOver (most : ℕ) (before after : Told) (text : List ℕ) (messages : List Message) : Type 0 where
+  pub came : CameWhole before.input after.input text
+  pub fits : length text ≤ most
+  pub no_quit : has_quit messages ≡ false
 
--- more came than is read as yet, or what came is no list of strict commands
-abbrev pub IsBeyond : Option (List ℕ) → Type 0
-IsBeyond input = (text : List ℕ) → input ≡ Some text → (most_input < length text) ⊎ IsNotStrict text
+-- at a `quit`, or where the input ended between two messages
+abbrev pub EndsBetween : ℕ → Told → Told → List ℕ → List Message → List ℕ → Type 0
+EndsBetween most before after text messages rest = (has_quit messages ≡ true) ⊎ (IsOver most before after text messages × (rest ≡ []))
+
+-- where the input ended inside a message
+abbrev pub EndsInside : ℕ → Told → Told → List ℕ → List Message → List ℕ → Type 0
+EndsInside most before after text messages rest = IsOver most before after text messages × (rest ≢ [])
+
+-- after `most` bytes without a `quit`, where there are more
+abbrev pub EndsEarly : ℕ → List ℕ → List Message → List ℕ → Type 0
+EndsEarly most text messages rest = (has_quit messages ≡ false) × (most < length text)
+
+-- at a failed read, where there was no `quit` yet
+abbrev pub EndsFailed : ℕ → List ℕ → List Message → List ℕ → Type 0
+EndsFailed most text messages rest = (has_quit messages ≡ false) × (length text ≤ most)
+
+-- what a run has done that reads at most so many bytes and ends with a status
+abbrev pub Does : ℕ → Status → Told → Told → Type 0
+Does most Ended before after = IsAnswered most before after (EndsBetween most before after)
+Does most EndedInside before after = IsAnswered most before after (EndsInside most before after)
+Does most TooMuch before after = IsAnswered most before after (EndsEarly most)
+Does most ReadFault before after = IsAnswered most before after (EndsFailed most)
+Does most WriteFault before after = IsBegun most before after
+Does most NoMemory before after = IsBegun most before after
+Does most BadWords before after = after ≡ before

@@ -4,15 +4,12 @@
 //! in. `main` makes the real ones.
 #![tactic(auto)]
 
-mod answer;
-mod asking;
-mod input;
-mod serve;
-mod showing;
-mod slot;
+mod answering;
+mod connection;
+mod piece;
 mod status;
+mod stop;
 mod top;
-mod trustee;
 mod words;
 
 pub use status::Status;
@@ -20,6 +17,7 @@ pub use top::top_in_turns;
 
 #[cfg(test)]
 mod tests;
+
 
 use std::process::ExitCode;
 use std::{env, io};

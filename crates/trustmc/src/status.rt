@@ -6,7 +6,7 @@ ghost use Rattle.trustmc.specs.Statuses.{text_of, number_of};
 /// How a run of the program ends.
 #[derive(Clone, Copy, Debug, PartialEq, Eq)]
 pub enum Status {
-    /// All input was read, and all replies to it are written.
+    /// All input was read, or all up to a `quit`, and all replies to it are written.
     Ended = 0,
     /// The words are not those of a command.
     BadWords = 1,
@@ -16,8 +16,10 @@ pub enum Status {
     ReadFault = 3,
     /// The output failed.
     WriteFault = 4,
-    /// The input is more than this version reads.
-    NotBuilt = 9,
+    /// The input has more bytes than are read, and no `quit` before.
+    TooMuch = 7,
+    /// The input ended inside a command. All before it is answered.
+    EndedInside = 8,
 }
 
 impl Status {
@@ -38,7 +40,8 @@ impl Status {
             Status::NoMemory => Some("trustmc: no memory"),
             Status::ReadFault => Some("trustmc: read fault"),
             Status::WriteFault => Some("trustmc: write fault"),
-            Status::NotBuilt => Some("trustmc: not built"),
+            Status::TooMuch => Some("trustmc: too much input"),
+            Status::EndedInside => Some("trustmc: input ended inside a command"),
         }
     }
 }

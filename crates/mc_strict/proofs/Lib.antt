@@ -1,4 +1,0 @@
-pub mod Cuts
-pub mod Shapes
-pub mod Commands
-pub mod Readings
