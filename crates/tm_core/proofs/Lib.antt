@@ -1,5 +1,6 @@
 pub mod Absent
 pub mod Accounts
+pub mod Agreeing
 pub mod AllAnswers
 pub mod AnswerKeeps
 pub mod Balance

@@ -20,7 +20,7 @@ pub use laws::{
 pub use log_laws::{
     batches_are_told, completions_are_of_launches, held_are_live, histories_tell_values,
     ids_never_return, launches_are_latched, longer_logs_add, reclaims_are_of_histories,
-    replies_are_of_histories, resumes_are_of_histories, states_are_sound,
+    replies_are_of_histories, resumes_are_of_histories, seen_logs_agree, states_are_sound,
 };
 pub use machine::Core;
 pub use step::{Step, StepRefused};

@@ -1,7 +1,7 @@
 //! What holds of all legal logs of a trustee and of the states that they leave, for every kind of object.
 //!
 //! Nothing here runs: each function states a law.
-ghost use Rattle.tm_model.specs.Laws.{StatesAreSound, HistoriesTellValues, LaunchesAreLatched, BatchesAreTold, LongerLogsAdd, IdsNeverReturn, CompletionsAreOfLaunches, RepliesAreOfHistories, ResumesAreOfHistories, ReclaimsAreOfHistories, HeldAreLive};
+ghost use Rattle.tm_model.specs.Laws.{StatesAreSound, HistoriesTellValues, LaunchesAreLatched, BatchesAreTold, LongerLogsAdd, IdsNeverReturn, CompletionsAreOfLaunches, RepliesAreOfHistories, ResumesAreOfHistories, ReclaimsAreOfHistories, HeldAreLive, SeenLogsAgree};
 
 use tm_seq::Entrusted;
 
@@ -71,4 +71,10 @@ pub fn reclaims_are_of_histories<S: Entrusted>()
 /// by it.
 pub fn held_are_live<S: Entrusted>()
     ensures { HeldAreLive S.kind }
+{}
+
+/// In a good core one of what two places have seen begins the other, and what was run of a place in
+/// what another has seen begins what that place sent.
+pub fn seen_logs_agree<S: Entrusted>()
+    ensures { SeenLogsAgree S.kind }
 {}

@@ -1,5 +1,5 @@
 -- What holds of all logs, states and cores: the statements, each proved as the contract of a function that cites it.
-use Rattle.std.specs.Prelude.{◌≡◌, ◌≢◌, ℕ, nat_eq, ◌+◌, ◌^◌, ◌<◌, ◌≤◌, true, List, [], ◌∷◌, ◌++◌, length, map}
+use Rattle.std.specs.Prelude.{◌≡◌, ◌≢◌, ℕ, nat_eq, ◌+◌, ◌^◌, ◌<◌, ◌≤◌, ◌⊎◌, true, List, [], ◌∷◌, ◌++◌, length, map}
 use Rattle.std.specs.declared.option.Option.TheVariants.{None, Some}
 use Rattle.std.specs.List.{AllByRecursion, IsDistinct, range_with_len}
 use Rattle.std.specs.List.Sorted.{IsStrictlyIncreasing}
@@ -223,3 +223,11 @@ module _ {V O R T : Type 0} where
         (opening : State V O R T) (core : FullCore V O R T) (c id : ℕ) → IsOpening opening → IsGood kind opening core → c < length core.slots
         → has_bye (slot_of core c).sent ≢ true → 1 ≤ held opening c (slot_of core c).sent (slot_of core c).got id
         → IsHeld (state_after kind opening core.log) c id
+
+    -- of what two places have seen, one begins the other, and what was run of a place in it begins what that place sent
+    abbrev pub SeenLogsAgree : Type 0
+    SeenLogsAgree =
+        (opening : State V O R T) (core : FullCore V O R T) (c d : ℕ) → IsGood kind opening core
+        → c < length core.slots → d < length core.slots
+        → (IsPrefix (slot_of core c).seen (slot_of core d).seen ⊎ IsPrefix (slot_of core d).seen (slot_of core c).seen)
+        × IsPrefix (ran d (slot_of core c).seen) (slot_of core d).sent
