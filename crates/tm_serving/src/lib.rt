@@ -1,0 +1,17 @@
+//! A trustee's rules as a program: what is answered, what may come, and the state that it leaves.
+//!
+//! It is plain and slow, so that a reader checks it against the rules by eye. Its contracts are the
+//! definitions of `tm_model`.
+#![tactic(auto)]
+
+mod live;
+mod object;
+mod place;
+mod plain;
+mod refused;
+mod rows;
+mod work;
+
+pub use plain::Plain;
+pub use refused::NotServed;
+pub use work::Awaited;

@@ -1,0 +1,57 @@
+//! A place of the table.
+ghost use Rattle.std.specs.Prelude.{◌≡◌, [], ◌∷◌, ◌++◌, true, OnOk, OnErr};
+ghost use Rattle.tm_model.specs.State.{no_place};
+
+use std::alloc::{AllocError, Global};
+use std::marker::Model;
+use tm_batch::{Completion, Name};
+use tm_seq::Entrusted;
+
+/// What a place has: how many of its requests were run, whether it is closed, and the gifts and
+/// completions that wait for it.
+#[derive(Drop)]
+pub(crate) struct PlainPlace<S: Entrusted> {
+    pub(crate) served: u64,
+    pub(crate) is_closed: bool,
+    pub(crate) gifts: Vec<Name>,
+    pub(crate) ready: Vec<Completion<S>>,
+}
+
+impl<S: Entrusted> Model for PlainPlace<S> {
+    ghost use Rattle.tm_model.specs.State.{Place};
+
+    ghost Value = { Place S S.Op S.Reply S.Task };
+
+    ghost view = { λ p. record { served = p.served; is_closed = p.is_closed; gifts = p.gifts.items; ready = p.ready.items } };
+}
+
+impl<S: Entrusted> PlainPlace<S> {
+    /// A place that nothing came to.
+    pub(crate) fn new(alloc: Global) -> PlainPlace<S>
+        ensures { result ≡ no_place }
+    {
+        PlainPlace {
+            served: 0,
+            is_closed: false,
+            gifts: Vec::new(alloc),
+            ready: Vec::new(alloc),
+        }
+    }
+
+    /// One more gift waits, the last; or nothing changes for want of memory.
+    pub(crate) fn give(&mut self, name: Name) -> Result<(), AllocError>
+        ensures ok { OnOk result (self.new ≡ record self.old { gifts = self.old.gifts ++ name ∷ [] }) }
+        ensures err { OnErr result (self.new ≡ self.old) }
+    {
+        self.gifts.push(name)?;
+        Ok(())
+    }
+
+    /// Closes the place: no gift waits for it any more.
+    pub(crate) fn close(&mut self)
+        ensures { self.new ≡ record self.old { is_closed = true; gifts = [] } }
+    {
+        self.is_closed = true;
+        self.gifts.clear();
+    }
+}
