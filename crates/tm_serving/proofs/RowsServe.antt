@@ -16,7 +16,7 @@ use Rattle.tm_model.specs.Legal.{IsGiftRefused}
 use Rattle.tm_serving.specs.Live.{with_work, Holds}
 use Rattle.tm_serving.specs.Served.{IsServed}
 
-some_and : {X : Type 0} {r : Option X} (P : X → Type 0) (x : X) → r ≡ Some x → P x → IsSomeAnd r P
+pub some_and : {X : Type 0} {r : Option X} (P : X → Type 0) (x : X) → r ≡ Some x → P x → IsSomeAnd r P
 some_and P x e h = subst (λ t. IsSomeAnd t P) (sym e) h
 
 zeros : {X : Type 0} (xs : List X) → replicate {A = ℕ} (length xs) 0 ≡ map (λ _. 0) xs

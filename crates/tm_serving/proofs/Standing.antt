@@ -9,20 +9,20 @@ use Rattle.tm_serving.specs.Live.{Rises, AreRising, StandsAt}
 
 module _ {V T : Type 0} where
   -- where all ids are greater, nothing changes
-  change_none : (low next id : ℕ) (f : Object V T → Object V T) (live : List (Object V T)) → id < low → Rises low next live → change id f live ≡ live
-  change_none low next id f [] lt h = refl
-  change_none low next id f (o ∷ live) lt h =
+  change_none : (n low next id : ℕ) (f : Object V T → Object V T) (live : List (Object V T)) → id < low → Rises n low next live → change id f live ≡ live
+  change_none n low next id f [] lt h = refl
+  change_none n low next id f (o ∷ live) lt h =
       let ne : o.id ≢ id = omega (arith, h.0) in
       let below : id < o.id + 1 = omega (arith, h.0) in
-      let more = change_none (o.id + 1) next id f live below h.1 in
+      let more = change_none n (o.id + 1) next id f live below h.2 in
       rw (ne_eqb o.id id ne) (ap (λ (l : List (Object V T)). o ∷ l) more)
 
-  without_none : (low next id : ℕ) (live : List (Object V T)) → id < low → Rises low next live → without id live ≡ live
-  without_none low next id [] lt h = refl
-  without_none low next id (o ∷ live) lt h =
+  without_none : (n low next id : ℕ) (live : List (Object V T)) → id < low → Rises n low next live → without id live ≡ live
+  without_none n low next id [] lt h = refl
+  without_none n low next id (o ∷ live) lt h =
       let ne : o.id ≢ id = omega (arith, h.0) in
       let below : id < o.id + 1 = omega (arith, h.0) in
-      let more = without_none (o.id + 1) next id live below h.1 in
+      let more = without_none n (o.id + 1) next id live below h.2 in
       rw (ne_eqb o.id id ne) (ap (λ (l : List (Object V T)). o ∷ l) more)
 
   -- an object that was not found in front
@@ -35,10 +35,10 @@ module _ {V T : Type 0} where
 
   -- the first object of an id stands where it was found
   pub standing :
-      (low next id i : ℕ) (live : List (Object V T)) (o : Object V T) → Rises low next live → object_of (take i live) id ≡ None
+      (n low next id i : ℕ) (live : List (Object V T)) (o : Object V T) → Rises n low next live → object_of (take i live) id ≡ None
       → i < length live → ((d : Object V T) → slice_index_or live i d ≡ o) → o.id ≡ id → StandsAt live id i o
-  standing low next id i [] o h none lt here e = absurd (omega (arith, lt))
-  standing low next id zero (x ∷ live) o h none lt here e =
+  standing n low next id i [] o h none lt here e = absurd (omega (arith, lt))
+  standing n low next id zero (x ∷ live) o h none lt here e =
       let is : x ≡ o = here x in
       let named : x.id ≡ id = ap (λ (y : Object V T). y.id) is ∙ e in
       let below : id < x.id + 1 = omega (arith, named) in
@@ -48,12 +48,12 @@ module _ {V T : Type 0} where
         here = here;
         is_named = e;
         found = rw first (ap (λ (y : Object V T). Some y) is);
-        alone = λ f. rw (first, change_none (x.id + 1) next id f live below h.1) (ap (λ (y : Object V T). f y ∷ live) is);
-        others = rw first (without_none (x.id + 1) next id live below h.1);
+        alone = λ f. rw (first, change_none n (x.id + 1) next id f live below h.2) (ap (λ (y : Object V T). f y ∷ live) is);
+        others = rw first (without_none n (x.id + 1) next id live below h.2);
       }
-  standing low next id (suc i) (x ∷ live) o h none lt here e =
+  standing n low next id (suc i) (x ∷ live) o h none lt here e =
       let other = not_first id x (take i live) none in
-      let rest = standing (x.id + 1) next id i live o h.1 other.1 (omega (arith, lt)) here e in
+      let rest = standing n (x.id + 1) next id i live o h.2 other.1 (omega (arith, lt)) here e in
       let not_here : (x.id == id) ≡ false = ne_eqb x.id id other.0 in
       record {
         in_range = lt;
@@ -87,4 +87,4 @@ module _ {V T : Type 0} where
       (id i : ℕ) (live : List (Object V T)) (o : Object V T) → AreRising live → object_of (take i live) id ≡ None
       → i < length live → o ≡ slice_index_or live i o → o.id ≡ id → (x : Object V T) × StandsAt live id i x
   read_standing id i live o rising none lt here e =
-      (o, standing 1 rising.next id i live o rising.rises none lt (λ d. sym (here ∙ get_or_default live i o d lt)) e)
+      (o, standing rising.places 1 rising.next id i live o rising.rises none lt (λ d. sym (here ∙ get_or_default live i o d lt)) e)

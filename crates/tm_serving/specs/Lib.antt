@@ -2,3 +2,4 @@ pub mod Parts
 pub mod Live
 pub mod Plain
 pub mod Served
+pub mod Resumed

@@ -1,6 +1,6 @@
 -- Live objects whose ids rise, and where an object stands among them.
 use Rattle.std.specs.Prelude.{◌≡◌, ℕ, ◌+◌, ◌<◌, ◌≤◌, List, [], ◌∷◌, ◌++◌, length, slice_index_or, slice_set, MatchOption, IsSomeAnd}
-use Rattle.std.specs.List.{remove}
+use Rattle.std.specs.List.{AllByRecursion, remove}
 use Rattle.std.specs.declared.option.Option.{Option}
 use Rattle.std.specs.declared.option.Option.TheVariants.{None, Some}
 use Rattle.tm_model.specs.State.{Work, Object, holds_of, change, without, object_of}
@@ -10,15 +10,16 @@ module _ {V T : Type 0} where
   abbrev pub with_work : Work T → Object V T → Object V T
   with_work w o = record o { works = o.works ++ w ∷ [] }
 
-  -- ids rise, from `low` on and below `next`
-  abbrev pub Rises : ℕ → ℕ → List (Object V T) → Type 0
-  Rises low next [] = low ≤ next
-  Rises low next (o ∷ live) = (low ≤ o.id) × Rises (o.id + 1) next live
+  -- ids rise, from `low` on and below `next`, and each launch is of one of n places
+  abbrev pub Rises : ℕ → ℕ → ℕ → List (Object V T) → Type 0
+  Rises n low next [] = low ≤ next
+  Rises n low next (o ∷ live) = (low ≤ o.id) × AllByRecursion (λ w. w.place < n) o.works × Rises n (o.id + 1) next live
 
-  -- ids rise
+  -- ids rise, and launches are of places
   pub record AreRising (live : List (Object V T)) : Type 0 where
+    pub places : ℕ
     pub next : ℕ
-    pub rises : Rises 1 next live
+    pub rises : Rises places 1 next live
 
   -- the object of an id stands at a position, and no other has that id
   pub record StandsAt (live : List (Object V T)) (id i : ℕ) (o : Object V T) : Type 0 where

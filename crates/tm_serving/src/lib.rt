@@ -9,9 +9,12 @@ mod object;
 mod place;
 mod plain;
 mod refused;
+mod resumed;
+mod resuming;
 mod rows;
 mod work;
 
 pub use plain::Plain;
-pub use refused::NotServed;
+pub use refused::{NotResumed, NotServed};
+pub use resumed::Resumed;
 pub use work::Awaited;

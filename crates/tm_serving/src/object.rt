@@ -1,12 +1,14 @@
 //! A live object.
-ghost use Rattle.std.specs.Prelude.{◌≡◌, ◌^◌, ◌-◌, ◌==◌, ◌↔◌, IsTrue, min, OnOk, OnErr, IfErr};
+ghost use Rattle.std.specs.Prelude.{◌≡◌, ◌≢◌, [], ◌^◌, ◌-◌, ◌==◌, ◌↔◌, IsTrue, min, OnOk, OnErr, IfErr};
 ghost use Rattle.tm_model.specs.State.{Start, holds_of, with_holds, total};
 ghost use Rattle.tm_seq.specs.Kind.{IsRun};
 ghost use Rattle.tm_serving.specs.Live.{with_work};
+ghost use Rattle.tm_serving.specs.Resumed.{IsFirst, IsAdvanced};
 
-use crate::work::PlainWork;
+use crate::resumed::Advance;
+use crate::work::{Awaited, PlainWork};
 use std::marker::Model;
-use tm_seq::Entrusted;
+use tm_seq::{Entrusted, Event, Next};
 
 /// A live object: its id, its value, the holds of each place, and its unfinished launches in order.
 #[derive(Drop)]
@@ -73,6 +75,52 @@ impl<S: Entrusted> PlainObject<S> {
         match self.works.push(PlainWork::new(place, ticket, task)) {
             Ok(()) => Ok(()),
             Err(back) => Err(back.value.task),
+        }
+    }
+
+    /// The place and what it awaits of the first launch, if there is one.
+    pub(crate) fn first(&self) -> Option<(u32, Awaited)>
+        ensures { IsFirst self.now.works result }
+    {
+        if self.works.is_empty() {
+            return None;
+        }
+        let work = &self.works[0];
+        Some((work.place, work.awaited))
+    }
+
+    /// Tells the first launch an event. It goes on as the first, or leaves.
+    pub(crate) fn advance(&mut self, event: Event<S::Reply>) -> Advance<S>
+        requires { self.old.works ≢ [] }
+        ensures { IsAdvanced S.kind self.old event self.new result }
+    {
+        let work = self.works.remove(0);
+        let place = work.place;
+        let ticket = work.ticket;
+        match self.value.resume(work.task, event) {
+            Next::Ask {
+                trustee,
+                index,
+                op,
+                task,
+            } => {
+                let awaited = Awaited::Told { trustee, index };
+                let work = PlainWork {
+                    place,
+                    ticket,
+                    task,
+                    awaited,
+                };
+                // Its room is still there.
+                self.works.insert(0, work).unwrap();
+                Advance::Asks {
+                    ticket,
+                    trustee,
+                    index,
+                    op,
+                }
+            }
+            Next::Done { reply } => Advance::Ends { ticket, reply },
         }
     }
 

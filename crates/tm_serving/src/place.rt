@@ -1,11 +1,14 @@
 //! A place of the table.
-ghost use Rattle.std.specs.Prelude.{◌≡◌, [], ◌∷◌, ◌++◌, true, OnOk, OnErr};
+ghost use Rattle.std.specs.Prelude.{◌≡◌, ◌≢◌, [], ◌∷◌, ◌++◌, true, OnOk, OnErr, IfOk, IfErr};
 ghost use Rattle.tm_model.specs.State.{no_place};
+ghost use Rattle.tm_serving.specs.Resumed.{IsTold};
 
+use crate::object::PlainObject;
+use crate::resumed::{Advance, Resumed};
 use std::alloc::{AllocError, Global};
 use std::marker::Model;
 use tm_batch::{Completion, Name};
-use tm_seq::Entrusted;
+use tm_seq::{Entrusted, Event};
 
 /// What a place has: how many of its requests were run, whether it is closed, and the gifts and
 /// completions that wait for it.
@@ -53,5 +56,41 @@ impl<S: Entrusted> PlainPlace<S> {
     {
         self.is_closed = true;
         self.gifts.clear();
+    }
+
+    /// Tells the first launch of an object an event; its completion is ready here where it ends. Or
+    /// hands the event back for want of memory.
+    pub(crate) fn resume(
+        &mut self,
+        object: &mut PlainObject<S>,
+        event: Event<S::Reply>,
+    ) -> Result<Resumed<S>, Event<S::Reply>>
+        requires { object.old.works ≢ [] }
+        ensures ok { IfOk result (IsTold S.kind object.old self.old event object.new self.new) }
+        ensures object { OnErr result (object.new ≡ object.old) }
+        ensures err { OnErr result (self.new ≡ self.old) }
+        ensures back { IfErr result (λ e. e ≡ event) }
+    {
+        if self.ready.reserve(1).is_err() {
+            return Err(event);
+        }
+        match object.advance(event) {
+            Advance::Asks {
+                ticket,
+                trustee,
+                index,
+                op,
+            } => Ok(Resumed::Asked {
+                ticket,
+                trustee,
+                index,
+                op,
+            }),
+            Advance::Ends { ticket, reply } => {
+                // The room was made before.
+                self.ready.push(Completion { ticket, reply }).unwrap();
+                Ok(Resumed::Ended { ticket })
+            }
+        }
     }
 }

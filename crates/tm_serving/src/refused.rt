@@ -1,7 +1,7 @@
 //! Why a call did nothing.
 
 use tm_batch::Request;
-use tm_seq::Entrusted;
+use tm_seq::{Entrusted, Event};
 
 /// Why a request was not served. It is handed back.
 #[derive(Drop)]
@@ -11,4 +11,14 @@ pub enum NotServed<S: Entrusted> {
     NotLegal(Request<S>),
     /// There was no memory, or as many requests of the place were run as are counted.
     NoMemory(Request<S>),
+}
+
+/// Why no work was resumed. The event is handed back.
+#[derive(Drop)]
+pub enum NotResumed<S: Entrusted> {
+    /// No launched work on the id may be told the event: the id is not live, nothing is launched on
+    /// it, or its first launch awaits another event.
+    NotLegal(Event<S::Reply>),
+    /// There was no memory.
+    NoMemory(Event<S::Reply>),
 }

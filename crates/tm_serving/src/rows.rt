@@ -72,6 +72,7 @@ impl<S: Entrusted> Plain<S> {
         name: Name,
         task: S::Task,
     ) -> Result<Answer<S>, NotServed<S>>
+        requires { place < length self.old.places }
         ensures { IsServed S.kind self.old place (Launch name task) result self.new }
     {
         let Some(at) = held_at(self.live.as_slice(), place, name.id) else {

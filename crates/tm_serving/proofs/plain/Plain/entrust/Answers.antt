@@ -5,7 +5,7 @@ use Rattle.tm_serving.proofs.RowsServe.{entrust-row}
 use Rattle.tm_serving.proofs.plain.Plain.entrust.Goals as goal
 
 pub invariant_of-self-2 : goal.invariant_of-self-2
-invariant_of-self-2 g c = kept_more _ _ _ _ _ _ c.self.invariant refl c.in_default-push.ensures.items
+invariant_of-self-2 g c = kept_more _ _ _ _ _ _ c.self.invariant refl c.new.ensures.items c.in_default-push.ensures.items
 
 pub returns : goal.returns
 returns g c =

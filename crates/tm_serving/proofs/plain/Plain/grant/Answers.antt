@@ -1,13 +1,14 @@
 use Rattle.std.proofs.Common.{length, ap, sym, ◌∙◌, arith}
 use Rattle.tm_model.specs.State.{Object, Place}
-use Rattle.tm_serving.proofs.Keeping.{kept_set, kept_place}
+use Rattle.tm_serving.proofs.Keeping.{kept_same, kept_place}
 use Rattle.tm_serving.proofs.RowsServe.{grant-row}
 use Rattle.tm_serving.proofs.plain.Plain.grant.Goals as goal
 
 pub invariant_of-self-2 : goal.invariant_of-self-2
 invariant_of-self-2 g c =
-    kept_set _ _ c.in-Some.at _ _ _ c.set_holds.new.self (kept_place _ _ c.args.to _ _ _ c.self.invariant) c.index_mut-object.ensures.value
+    kept_same _ _ c.in-Some.at _ _ _ c.set_holds.new.self (kept_place _ _ c.args.to _ _ _ c.self.invariant) c.index_mut-object.ensures.value
     (ap (λ (o : Object _ _). o.id) c.set_holds.ensures)
+    (ap (λ (o : Object _ _). o.works) c.set_holds.ensures)
 
 pub returns : goal.returns
 returns g c =
