@@ -3,3 +3,5 @@ pub mod Live
 pub mod Plain
 pub mod Served
 pub mod Resumed
+pub mod Leaves
+pub mod Opens

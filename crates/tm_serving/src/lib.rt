@@ -6,15 +6,18 @@
 
 mod live;
 mod object;
+mod opening;
 mod place;
 mod plain;
 mod refused;
 mod resumed;
 mod resuming;
 mod rows;
+mod sending;
 mod work;
 
+pub use place::Leaving;
 pub use plain::Plain;
-pub use refused::{NotResumed, NotServed};
+pub use refused::{NotResumed, NotSent, NotServed};
 pub use resumed::Resumed;
 pub use work::Awaited;

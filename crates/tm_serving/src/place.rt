@@ -1,5 +1,5 @@
 //! A place of the table.
-ghost use Rattle.std.specs.Prelude.{◌≡◌, ◌≢◌, [], ◌∷◌, ◌++◌, true, OnOk, OnErr, IfOk, IfErr};
+ghost use Rattle.std.specs.Prelude.{◌≡◌, ◌≢◌, [], ◌∷◌, ◌++◌, true, OnOk, OnErr, IfOk, IfErr, ◌≤◌, ◌<◌, take, drop, vec_capacity};
 ghost use Rattle.tm_model.specs.State.{no_place};
 ghost use Rattle.tm_serving.specs.Resumed.{IsTold};
 
@@ -27,6 +27,18 @@ impl<S: Entrusted> Model for PlainPlace<S> {
 
     ghost view = { λ p. record { served = p.served; is_closed = p.is_closed; gifts = p.gifts.items; ready = p.ready.items } };
 }
+
+/// What leaves for a place with the answers to a batch.
+#[derive(Drop)]
+pub struct Leaving<S: Entrusted> {
+    /// The gifts, in the order in which they were granted.
+    pub gifts: Vec<Name>,
+    /// The completions, in the order in which the work ended.
+    pub completions: Vec<Completion<S>>,
+}
+
+// The most completions that leave with a batch, and the most gifts.
+const MOST_LEAVING: usize = 16;
 
 impl<S: Entrusted> PlainPlace<S> {
     /// A place that nothing came to.
@@ -92,5 +104,33 @@ impl<S: Entrusted> PlainPlace<S> {
                 Ok(Resumed::Ended { ticket })
             }
         }
+    }
+
+    /// Takes out what leaves with a batch: the gifts that waited longest, as many as there is room
+    /// for, and the 16 completions that waited longest. Or nothing changes for want of memory.
+    pub(crate) fn send(&mut self, alloc: Global, room: usize) -> Result<Leaving<S>, AllocError>
+        requires { room ≤ 16 }
+        ensures gifts { IfOk result (λ l. l.gifts.items ≡ take room self.old.gifts) }
+        ensures completions { IfOk result (λ l. l.completions.items ≡ take 16 self.old.ready) }
+        ensures left { OnOk result (self.new ≡ record self.old { gifts = drop room self.old.gifts; ready = drop 16 self.old.ready }) }
+        ensures err { OnErr result (self.new ≡ self.old) }
+    {
+        let mut gifts = Vec::with_capacity(alloc, MOST_LEAVING)?;
+        let mut completions = Vec::with_capacity(alloc, MOST_LEAVING)?;
+        move_front(&mut self.gifts, &mut gifts, room);
+        move_front(&mut self.ready, &mut completions, MOST_LEAVING);
+        Ok(Leaving { gifts, completions })
+    }
+}
+
+// Moves the first elements over, so many or all if there are fewer. Their room is there.
+fn move_front<T: Drop>(items: &mut Vec<T>, taken: &mut Vec<T>, most: usize)
+    requires none { taken.old.items ≡ [] }
+    requires room { most ≤ vec_capacity taken.old }
+    ensures taken { taken.new.items ≡ take most items.old.items }
+    ensures left { items.new.items ≡ drop most items.old.items }
+{
+    for _ in 0..items.len().min(most) {
+        taken.push(items.remove(0)).unwrap();
     }
 }

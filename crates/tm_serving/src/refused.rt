@@ -22,3 +22,12 @@ pub enum NotResumed<S: Entrusted> {
     /// There was no memory.
     NoMemory(Event<S::Reply>),
 }
+
+/// Why no answers left.
+#[derive(Debug, Clone, Copy, PartialEq, Eq)]
+pub enum NotSent {
+    /// The place is none of the table's, or the room is above 16.
+    NotLegal,
+    /// There was no memory.
+    NoMemory,
+}
