@@ -1,5 +1,5 @@
 -- What leaves with a batch.
-use Rattle.std.proofs.Common.{◌≡◌, ℕ, ◌+◌, ◌<◌, ◌≤◌, zero, suc, min, List, [], ◌∷◌, ◌++◌, length, take, drop, slice_index_or, slice_set, refl, sym, ◌∙◌, ap, arith, add-one}
+use Rattle.std.proofs.Common.{◌≡◌, ℕ, ◌+◌, ◌<◌, zero, suc, min, List, [], ◌∷◌, ◌++◌, length, take, drop, slice_index_or, slice_set, refl, sym, ◌∙◌, ap, arith, add-one}
 use Rattle.std.specs.List.{remove}
 use Rattle.std.proofs.Math.Nat.{min-zero, suc-min-suc}
 use Rattle.std.proofs.lemmas.List.{get_or_default}

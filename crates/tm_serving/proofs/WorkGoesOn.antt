@@ -1,8 +1,7 @@
 -- What a resumed launch leaves: of its object, of its place, and of the state.
-use Rattle.std.proofs.Common.{◌≡◌, ◌≢◌, ◌↔◌, IsTrue, ℕ, ◌+◌, ◌<◌, ◌≤◌, zero, suc, Bool, true, false, cond, List, [], ◌∷◌, ◌++◌, length, slice_index_or, slice_set, IsSomeAnd, inl, inr, refl, sym, ◌∙◌, ap, subst, arith}
+use Rattle.std.proofs.Common.{◌≡◌, ◌≢◌, ◌↔◌, IsTrue, ℕ, ◌+◌, ◌<◌, zero, suc, Bool, true, false, List, [], ◌∷◌, ◌++◌, length, slice_index_or, slice_set, IsSomeAnd, inl, inr, refl, sym, ◌∙◌, ap, subst, arith}
 use Rattle.std.specs.List.{AllByRecursion, remove}
 use Rattle.std.specs.declared.option.Option.{Option}
-use Rattle.std.specs.declared.option.Option.TheVariants.{Some}
 use Rattle.std.proofs.lemmas.List.{get_or_default, set-get_or}
 use Rattle.tm_seq.specs.Kind.{Kind, KindLaws, IsResume}
 use Rattle.tm_seq.specs.declared.kind.Event.{Event}
@@ -10,8 +9,8 @@ use Rattle.tm_seq.specs.declared.kind.Next.{Next}
 use Rattle.tm_seq.specs.declared.kind.Next.TheVariants.{Ask, Done}
 use Rattle.tm_batch.specs.declared.config.Config.{Config}
 use Rattle.tm_model.specs.declared.entry.Entry.TheVariants.{Resume}
-use Rattle.tm_model.specs.State.{Awaits, AskOf, Work, Setup, Object, Place, State, change, kept, object_of, no_place, place_of, with_live}
-use Rattle.tm_model.specs.Serve.{is_lacking, value_resumed, value_advanced, works_resumed, works_in, completed}
+use Rattle.tm_model.specs.State.{Awaits, Work, Object, Place, State, change, kept, object_of, no_place, place_of, with_live}
+use Rattle.tm_model.specs.Serve.{value_resumed, value_advanced, works_resumed, works_in, completed}
 use Rattle.tm_model.specs.Legal.{IsAwaited, HasFirst, MayCome}
 use Rattle.tm_serving.specs.declared.resumed.Resumed.{Resumed}
 use Rattle.tm_serving.specs.declared.resumed.Resumed.TheVariants.{Asked, Ended}

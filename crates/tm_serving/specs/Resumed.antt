@@ -1,5 +1,5 @@
 -- How launched work is resumed, or why it is not.
-use Rattle.std.specs.Prelude.{◌≡◌, ◌≢◌, ℕ, ◌≤◌, List, [], ◌∷◌, ◌++◌, length, MatchOption}
+use Rattle.std.specs.Prelude.{◌≡◌, ℕ, List, [], ◌∷◌, ◌++◌, MatchOption}
 use Rattle.std.specs.declared.option.Option.{Option}
 use Rattle.tm_seq.specs.Kind.{Kind, IsResume}
 use Rattle.tm_seq.specs.declared.kind.Event.{Event}

@@ -21,3 +21,6 @@ pub use plain::Plain;
 pub use refused::{NotResumed, NotSent, NotServed};
 pub use resumed::Resumed;
 pub use work::Awaited;
+
+#[cfg(test)]
+mod tests;

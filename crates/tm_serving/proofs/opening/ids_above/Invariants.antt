@@ -1,4 +1,4 @@
-use Rattle.std.proofs.Common.{◌≡◌, ◌+◌, nat_lt, cond, [], map}
+use Rattle.std.proofs.Common.{◌≡◌, nat_lt, cond, [], map}
 use Rattle.std.specs.List.{range_with_len}
 use Rattle.tm_model.specs.Opening.{ids_at}
 use Rattle.tm_serving.proofs.opening.ids_above.Given as goal

@@ -1,4 +1,4 @@
-use Rattle.std.proofs.Common.{take, length, ap, ◌∙◌, arith, length-take-le}
+use Rattle.std.proofs.Common.{take, ap, ◌∙◌, arith, length-take-le}
 use Rattle.std.specs.Prelude.{◌==◌}
 use Rattle.std.specs.List.{list_any}
 use Rattle.tm_serving.proofs.Opened.{placed_le, skips, notes}

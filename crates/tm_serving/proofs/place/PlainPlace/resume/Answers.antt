@@ -1,4 +1,4 @@
-use Rattle.std.proofs.Common.{List, ◌∷◌, [], ◌++◌, ap, ◌∙◌}
+use Rattle.std.proofs.Common.{◌∷◌, [], ◌++◌, ap, ◌∙◌}
 use Rattle.tm_serving.proofs.WorkGoesOn.{asked_told, ended_told}
 use Rattle.tm_serving.proofs.place.PlainPlace.resume.Goals as goal
 

@@ -1,4 +1,4 @@
-use Rattle.std.proofs.Common.{◌≡◌, ◌∙◌, ℕ, ◌<◌, length, take, ap, sym, arith}
+use Rattle.std.proofs.Common.{◌∙◌, ◌<◌, length, take, ap, arith}
 use Rattle.tm_model.specs.State.{State, Place, place_count}
 use Rattle.tm_serving.proofs.Leaves.{read_place, sends}
 use Rattle.tm_serving.proofs.plain.Plain.send.Goals as goal
