@@ -20,7 +20,6 @@ pub use place::Leaving;
 pub use plain::Plain;
 pub use refused::{NotResumed, NotSent, NotServed};
 pub use resumed::Resumed;
-pub use work::Awaited;
 
 #[cfg(test)]
 mod tests;

@@ -6,8 +6,8 @@ use std::marker::Model;
 use tm_seq::Entrusted;
 
 /// What launched work waits for.
-#[derive(Debug, Clone, Copy, PartialEq, Eq)]
-pub enum Awaited {
+#[derive(Clone, Copy)]
+pub(crate) enum Awaited {
     /// Its begin.
     Begin,
     /// What it is told of its ask.
