@@ -1,5 +1,5 @@
 -- Small logs of counters, worked by hand: what is legal, and the state and the answer batches that they leave.
-use Rattle.std.proofs.Common.{◌≡◌, ℕ, ◌<◌, ◌≤◌, true, false, List, [], ◌∷◌, ◌++◌, length, map, refl, arith, inl, inr, lit<, lit≤}
+use Rattle.std.proofs.Common.{◌≡◌, ℕ, ◌<◌, ◌≤◌, true, false, List, [], ◌∷◌, ◌++◌, length, map, refl, ap, arith, inl, inr, lit<, lit≤}
 use Rattle.std.proofs.Math.ListN.{replicate}
 use Rattle.tm_seq.specs.Counting.{counter_kind}
 use Rattle.tm_seq.specs.declared.kind.Event.TheVariants.{Begin, Reply, NotAbove, NoObject}
@@ -27,10 +27,10 @@ use Rattle.tm_model.specs.Legal.{MayCome, IsLegal}
 use Rattle.tm_model.specs.Batches.{batches}
 use Rattle.tm_model.specs.Given.{ids_given, tickets_given, ended_for}
 use Rattle.tm_model.specs.History.{history_of, lived}
-use Rattle.tm_model.specs.Slots.{no_slot, publish, see}
+use Rattle.tm_model.specs.Slots.{Answered, no_slot, publish, see}
 use Rattle.tm_model.specs.Holds.{held}
 use Rattle.tm_model.specs.Orderly.{IsOrderly}
-use Rattle.tm_model.specs.Good.{FullSlot, FullCore, IsGood}
+use Rattle.tm_model.specs.Good.{FullBox, FullSlot, FullCore, got_with, IsGood}
 use Rattle.tm_model.specs.Answering.{MayAnswerWith}
 use Rattle.tm_model.specs.Laws.{first_of}
 
@@ -115,6 +115,9 @@ grant_to_no_client h = omega (arith, h.2.1)
 grant_keeps_name :
     (place_of (after_log (By 0 0 (Grant (record { id = 1; place = 9 }) 1) Granted ∷ [])) 1).gifts ≡ record { id = 1; place = 9 } ∷ []
 grant_keeps_name = refl
+
+grant_of_name : MayCome counter_kind opening (By 0 0 (Grant (record { id = 1; place = 9 }) 1) Granted)
+grant_of_name = (lit< tt, refl, (lit≤ tt, lit< tt, (refl, elim [ inl h ↦ omega (arith, h) | inr h ↦ omega (arith, h) ])))
 
 -- the greatest number of holds of one place
 abbrev crowded : State Counter CounterOp CounterReply CounterTask
@@ -214,6 +217,30 @@ lacking = (refl, (lit< tt, lit< tt), inr (refl, refl))
 lacking_add : IsLegal counter_kind opening (By 0 0 (Apply (named 1) (Add 2)) (Replied NoMemory) ∷ By 0 1 (Apply (named 1) Read) (Replied (Is 5)) ∷ [])
 lacking_add = ((lit< tt, refl, (lit≤ tt, inr (refl, refl))), ((lit< tt, refl, (lit≤ tt, inl refl)), tt))
 
+abbrev lacked : State Counter CounterOp CounterReply CounterTask
+lacked = state_after counter_kind (asked 1 0) (Resume 1 1 (Reply (Is 7)) (Done NoMemory) ∷ [])
+
+lacked-value : map (λ o. o.value) lacked.live ≡ counter 5 ∷ []
+lacked-value = refl
+
+lacked-ready : (place_of lacked 0).ready ≡ record { ticket = 1; reply = NoMemory } ∷ []
+lacked-ready = refl
+
+same_number : (n m : ℕ) → Is n ≡ Is m → n ≡ m
+same_number n m e = cc
+
+not_lacking : (n : ℕ) → Is n ≡ NoMemory → ⊥
+not_lacking n e = cc
+
+lacking_read :
+    (n : ℕ)
+    → MayCome counter_kind (after_log (By 0 0 (Apply (named 1) (Add 2)) (Replied NoMemory) ∷ [])) (By 0 1 (Apply (named 1) Read) (Replied (Is n)))
+    → n ≡ 5
+lacking_read n h = elim h.2.1 [
+  | inl e ↦ same_number n 5 (ap (λ (p : Counter × CounterReply). p.1) e)
+  | inr e ↦ absurd (not_lacking n e.1)
+]
+
 -- fronts are lengths of the log
 abbrev two_batches : Log
 two_batches =
@@ -283,6 +310,21 @@ spending-ids = refl
 again-ids : ids_given again ≡ 2 ∷ []
 again-ids = refl
 
+-- 1,024 gifts of object 1 wait for client 1: none of object 2 may, until some have left, and then it is the last in line
+abbrev stacked_pair : State Counter CounterOp CounterReply CounterTask
+stacked_pair = record pair { places = stacked.places }
+
+grant_another_over_1024 : MayCome counter_kind stacked_pair (By 0 0 (Grant (named 2) 1) GiftsFull)
+grant_another_over_1024 = (lit< tt, refl, (lit≤ tt, lit< tt, (refl, inl (lit≤ tt))))
+
+grant_another_after_leaving : MayCome counter_kind (state_after counter_kind stacked_pair (Sent 1 16 ∷ [])) (By 0 0 (Grant (named 2) 1) Granted)
+grant_another_after_leaving = (lit< tt, refl, (lit≤ tt, lit< tt, (refl, elim [ inl h ↦ omega (arith, h) | inr h ↦ omega (arith, h) ])))
+
+another_is_last :
+    (place_of (state_after counter_kind stacked_pair (Sent 1 16 ∷ By 0 0 (Grant (named 2) 1) Granted ∷ [])) 1).gifts
+    ≡ replicate 1008 (named 1) ++ named 2 ∷ []
+another_is_last = refl
+
 -- a reclaim that is refused brings its own hold back, and no other
 abbrev Requests : Type 0
 Requests = List (Request Counter CounterOp CounterReply CounterTask)
@@ -303,6 +345,19 @@ held-before = refl
 
 held-after : map (held pair 0 two_reclaims (one_shared ∷ [])) (1 ∷ 2 ∷ []) ≡ 1 ∷ 0 ∷ []
 held-after = refl
+
+-- the answers stand in the box before they are collected
+abbrev boxed : FullBox Counter CounterOp CounterReply CounterTask
+boxed = Answered one_shared [] 0
+
+held-in_box : map (held pair 0 two_reclaims (got_with boxed [])) (1 ∷ 2 ∷ []) ≡ 1 ∷ 0 ∷ []
+held-in_box = refl
+
+two_reclaims-legal : IsLegal counter_kind pair (By 0 0 (Reclaim (named 1)) Shared ∷ By 0 1 (Reclaim (named 2)) (Reclaimed (counter 6)) ∷ [])
+two_reclaims-legal = (
+  (lit< tt, refl, (lit≤ tt, λ e. let one : 2 ≡ 1 = e in omega (arith, one))),
+  ((lit< tt, refl, (lit≤ tt, (refl, refl))), tt),
+)
 
 -- a hold that is given away may not be named again, though a gift waits
 abbrev over : Requests

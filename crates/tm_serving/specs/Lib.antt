@@ -1,0 +1,7 @@
+pub mod Parts
+pub mod Live
+pub mod Plain
+pub mod Served
+pub mod Resumed
+pub mod Leaves
+pub mod Opens
