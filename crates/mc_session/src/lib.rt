@@ -15,3 +15,6 @@ mod slot;
 mod trustee;
 
 pub use session::Session;
+
+#[cfg(test)]
+mod tests;
