@@ -60,7 +60,7 @@ fn limits_are_kept(rt: HostRuntime) -> Result<(), Fail> {
         let read = joined(alloc, input)?;
         let written = joined(alloc, output)?;
         assert!(rt;
-            shows(alloc, &[NOW], &read, &written, Status::Ended)?,
+            shows(alloc, &[NOW], &read, 997, &written, Status::Ended)?,
             "of {} bytes",
             read.len()
         );
@@ -78,6 +78,6 @@ fn many_keys_are_looked_up(rt: HostRuntime) -> Result<(), Fail> {
     }
     line.extend_from_slice(b"\r\n")?;
     assert_eq!(rt; line.len(), 4_105);
-    assert!(rt; shows(alloc, &[NOW], &line, b"END\r\n", Status::Ended)?);
+    assert!(rt; shows(alloc, &[NOW], &line, 1, b"END\r\n", Status::Ended)?);
     Ok(())
 }

@@ -97,7 +97,7 @@ fn commands_are_answered(rt: HostRuntime) -> Result<(), Fail> {
         let read = text(alloc, input)?;
         let written = text(alloc, output)?;
         assert!(rt;
-            shows(alloc, &[NOW], &read, &written, Status::Ended)?,
+            shows(alloc, &[NOW], &read, 1, &written, Status::Ended)?,
             "at {input}"
         );
     }
@@ -134,7 +134,7 @@ fn moments_are_those_of_the_clock(rt: HostRuntime) -> Result<(), Fail> {
         let read = text(alloc, input)?;
         let written = text(alloc, output)?;
         assert!(rt;
-            shows(alloc, clock, &read, &written, Status::Ended)?,
+            shows(alloc, clock, &read, 1, &written, Status::Ended)?,
             "at {input}"
         );
     }
@@ -153,7 +153,7 @@ fn an_input_may_end_inside_a_command(rt: HostRuntime) -> Result<(), Fail> {
         let read = text(alloc, input)?;
         let written = text(alloc, output)?;
         assert!(rt;
-            shows(alloc, &[NOW], &read, &written, Status::EndedInside)?,
+            shows(alloc, &[NOW], &read, 1, &written, Status::EndedInside)?,
             "at {input}"
         );
     }
