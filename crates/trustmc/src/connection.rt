@@ -38,14 +38,22 @@ fn read_buffer(alloc: Global) -> Result<Vec<u8>, AllocError>
 fn within(came: usize, left: u64) -> usize
     ensures { result ≡ min came left }
 {
-    if came as u64 > left { left as usize } else { came }
+    if came as u64 > left {
+        left as usize
+    } else {
+        came
+    }
 }
 
 // Where an input ends that the reader has read.
 fn end_of(reader: &Reader) -> End
     ensures { IsEndAt reader.now result }
 {
-    if reader.is_between() { End::Between } else { End::Inside }
+    if reader.is_between() {
+        End::Between
+    } else {
+        End::Inside
+    }
 }
 
 /// Answers an input, at most its first `most` bytes, to its end or to a `quit`.
@@ -83,7 +91,14 @@ pub fn answer_all<A: Source, B: Sink, W: Clock, G: Gate>(
             return Ok(end_of(&reader));
         }
         let fed = within(came, left);
-        let heard = answer_piece(&mut reader, &mut session, &buffer[..fed], output, clock, gate)?;
+        let heard = answer_piece(
+            &mut reader,
+            &mut session,
+            &buffer[..fed],
+            output,
+            clock,
+            gate,
+        )?;
         if let Heard::Quit = heard {
             return Ok(End::Between);
         }

@@ -18,7 +18,6 @@ pub use top::top_in_turns;
 #[cfg(test)]
 mod tests;
 
-
 use std::process::ExitCode;
 use std::{env, io};
 use tm_base::{FreeGate, StdSink, StdSource, SystemClock};

@@ -49,17 +49,18 @@ fn run(
     Ok((Vec::from_slice(alloc, sink.bytes())?, status))
 }
 
-// Whether the input is answered so, whole and in pieces of one byte.
+// Whether the input is answered so, whole and in pieces of so many bytes.
 fn shows(
     alloc: Global,
     clock: &[u64],
     input: &[u8],
+    piece: usize,
     output: &[u8],
     status: Status,
 ) -> Result<bool, AllocError> {
-    let ones = vec![in alloc; 1usize; input.len()]?;
+    let cuts = vec![in alloc; piece; input.len()]?;
     let (whole, ended) = run(alloc, clock, input, Vec::new(alloc))?;
-    let (pieced, pieced_ended) = run(alloc, clock, input, ones)?;
+    let (pieced, pieced_ended) = run(alloc, clock, input, cuts)?;
     let whole = whole.as_slice() == output && ended == status;
     Ok(whole && pieced.as_slice() == output && pieced_ended == status)
 }

@@ -15,7 +15,11 @@ const SAMPLE: &[u8] = b"set a 5 0 3\r\nabc\r\nget a\r\n";
 const SAMPLE_SHOWN: &[u8] = b"STORED\r\nVALUE a 5 3\r\nabc\r\nEND\r\n";
 
 // What is written for the sample in such pieces, with a read that fails.
-fn run_failing(alloc: Global, cuts: Vec<usize>, read: u64) -> Result<(Vec<u8>, Status), AllocError> {
+fn run_failing(
+    alloc: Global,
+    cuts: Vec<usize>,
+    read: u64,
+) -> Result<(Vec<u8>, Status), AllocError> {
     let words = words(alloc, &["run", "--turns"])?;
     let failing = vec![in alloc; read]?;
     let mut source = MemSource::new(Vec::from_slice(alloc, SAMPLE)?, cuts, failing);
@@ -148,7 +152,10 @@ fn commands_read_the_clock_and_operations_pass_the_gate(rt: HostRuntime) -> Resu
         passed: Cell::new(0),
         in_order: Cell::new(true),
     };
-    let input = text(alloc, "set a 0 0 1~x~foo~get a b c~stats~version~quit~get a~")?;
+    let input = text(
+        alloc,
+        "set a 0 0 1~x~foo~get a b c~stats~version~quit~get a~",
+    )?;
     let mut source = MemSource::new(input, Vec::new(alloc), Vec::new(alloc));
     let mut sink = MemSink::new(alloc, 1 << 30, Vec::new(alloc));
     let mut clock = MemClock::new(vec![in alloc; 10, 11, 12, 13, 14, 15, 16]?);

@@ -21,8 +21,16 @@ fn limits_are_kept(rt: HostRuntime) -> Result<(), Fail> {
     let rows: [(&[(&str, u8, usize)], &[(&str, u8, usize)]); 4] = [
         // Keys of 250 and of 251 bytes.
         (
-            &[("set ", b'k', 250), (" 0 0 0~~set ", b'k', 251), (" 0 0 0~~~", 0, 0)],
-            &[("STORED~CLIENT_ERROR bad command line format~ERROR~ERROR~", 0, 0)],
+            &[
+                ("set ", b'k', 250),
+                (" 0 0 0~~set ", b'k', 251),
+                (" 0 0 0~~~", 0, 0),
+            ],
+            &[(
+                "STORED~CLIENT_ERROR bad command line format~ERROR~ERROR~",
+                0,
+                0,
+            )],
         ),
         // Values of 1 MiB, of one byte more, and one that would get so.
         (
@@ -33,7 +41,11 @@ fn limits_are_kept(rt: HostRuntime) -> Result<(), Fail> {
             ],
             &[
                 ("STORED~SERVER_ERROR object too large for cache~", 0, 0),
-                ("SERVER_ERROR object too large for cache~VALUE a 0 1048576~", b'x', 1_048_576),
+                (
+                    "SERVER_ERROR object too large for cache~VALUE a 0 1048576~",
+                    b'x',
+                    1_048_576,
+                ),
                 ("~END~", 0, 0),
             ],
         ),
@@ -47,7 +59,11 @@ fn limits_are_kept(rt: HostRuntime) -> Result<(), Fail> {
     for (input, output) in rows {
         let read = joined(alloc, input)?;
         let written = joined(alloc, output)?;
-        assert!(rt; shows(alloc, &[NOW], &read, &written, Status::Ended)?, "of {} bytes", read.len());
+        assert!(rt;
+            shows(alloc, &[NOW], &read, 997, &written, Status::Ended)?,
+            "of {} bytes",
+            read.len()
+        );
     }
     Ok(())
 }
@@ -62,6 +78,6 @@ fn many_keys_are_looked_up(rt: HostRuntime) -> Result<(), Fail> {
     }
     line.extend_from_slice(b"\r\n")?;
     assert_eq!(rt; line.len(), 4_105);
-    assert!(rt; shows(alloc, &[NOW], &line, b"END\r\n", Status::Ended)?);
+    assert!(rt; shows(alloc, &[NOW], &line, 1, b"END\r\n", Status::Ended)?);
     Ok(())
 }

@@ -21,7 +21,10 @@ const ROWS: [(&str, &str); 22] = [
         CLIENT_ERROR invalid numeric delta argument~NOT_FOUND~",
     ),
     // The tail of a bad block is no command.
-    ("set a 0 0 3~abcdef~get a~", "CLIENT_ERROR bad data chunk~END~"),
+    (
+        "set a 0 0 3~abcdef~get a~",
+        "CLIENT_ERROR bad data chunk~END~",
+    ),
     ("set a 0 0 3 noreply~abcdef~get a~", "END~"),
     ("set a 0 0 3^abc^get a^", "CLIENT_ERROR bad data chunk~END~"),
     // A value is bytes, line ends too.
@@ -93,7 +96,10 @@ fn commands_are_answered(rt: HostRuntime) -> Result<(), Fail> {
     for (input, output) in ROWS {
         let read = text(alloc, input)?;
         let written = text(alloc, output)?;
-        assert!(rt; shows(alloc, &[NOW], &read, &written, Status::Ended)?, "at {input}");
+        assert!(rt;
+            shows(alloc, &[NOW], &read, 1, &written, Status::Ended)?,
+            "at {input}"
+        );
     }
     Ok(())
 }
@@ -127,7 +133,10 @@ fn moments_are_those_of_the_clock(rt: HostRuntime) -> Result<(), Fail> {
     for (clock, input, output) in rows {
         let read = text(alloc, input)?;
         let written = text(alloc, output)?;
-        assert!(rt; shows(alloc, clock, &read, &written, Status::Ended)?, "at {input}");
+        assert!(rt;
+            shows(alloc, clock, &read, 1, &written, Status::Ended)?,
+            "at {input}"
+        );
     }
     Ok(())
 }
@@ -143,7 +152,10 @@ fn an_input_may_end_inside_a_command(rt: HostRuntime) -> Result<(), Fail> {
     for (input, output) in rows {
         let read = text(alloc, input)?;
         let written = text(alloc, output)?;
-        assert!(rt; shows(alloc, &[NOW], &read, &written, Status::EndedInside)?, "at {input}");
+        assert!(rt;
+            shows(alloc, &[NOW], &read, 1, &written, Status::EndedInside)?,
+            "at {input}"
+        );
     }
     Ok(())
 }
