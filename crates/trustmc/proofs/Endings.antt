@@ -1,6 +1,6 @@
 -- How a connection ends, in the words of the program's contract.
-use Rattle.std.proofs.Common.{◌≡◌, ◌≢◌, ◌⊎◌, ℕ, ◌+◌, ◌<◌, ◌≤◌, Bool, true, false, cond, List, [], ◌∷◌, ◌++◌, length, take, drop, Option, Some, Result, Ok, Err, refl, sym, ap, subst, ◌∙◌, inl, inr, arith, append_assoc}
-use Rattle.std.proofs.lemmas.List.{append-nil, take_all, take-append-drop}
+use Rattle.std.proofs.Common.{◌≡◌, ◌≢◌, ℕ, ◌<◌, ◌≤◌, Bool, true, false, cond, List, [], ◌++◌, length, take, Option, Ok, Err, refl, sym, ap, subst, ◌∙◌, inl, inr}
+use Rattle.std.proofs.lemmas.List.{append-nil}
 use Rattle.tm_base.specs.Told.{Grows}
 use Rattle.mc_model.specs.declared.message.Message.{Message}
 use Rattle.mc_model.specs.declared.reply.ShardReply.{ShardReply}
@@ -11,10 +11,10 @@ use Rattle.mc_model.specs.Showing.{commands_of, shown_of_all}
 use Rattle.mc_model.specs.Rendering.{rendered}
 use Rattle.mc_model.specs.Class.{Class}
 use Rattle.mc_grammar.specs.declared.progress.Progress.{Progress}
-use Rattle.mc_grammar.specs.Progress.{Goes, Start, IsUnfinished}
+use Rattle.mc_grammar.specs.Progress.{IsUnfinished}
 use Rattle.mc_grammar.specs.Reading.{ReadsRest}
 use Rattle.mc_grammar.proofs.ReadFacts.{reads_rest}
-use Rattle.mc_grammar.proofs.Spellings.{each_text_reads, reads_extend}
+use Rattle.mc_grammar.proofs.Spellings.{reads_extend}
 use Rattle.mc_classes.specs.Classes.{new_classes}
 use Rattle.mc_classes.specs.Replies.{ClassesRun}
 use Rattle.mc_classes.proofs.Runs.{run_as_one}
@@ -26,10 +26,8 @@ use Rattle.trustmc.specs.declared.stop.Stop.TheVariants as stop
 use Rattle.trustmc.specs.Input.{CameSoFar, CameWhole}
 use Rattle.trustmc.specs.Answering.{IsServed, IsCut}
 use Rattle.trustmc.specs.Ends.{status_of, IsEndAt}
-use Rattle.trustmc.specs.Runs.{told, Outputs, AreAnswered, AreBegun, IsReadAs, IsAnswered, IsBegun, IsOver, EndsBetween, EndsInside, EndsEarly, EndsFailed, Does}
+use Rattle.trustmc.specs.Runs.{told, Outputs, AreAnswered, IsReadAs, IsAnswered, IsBegun, EndsBetween, EndsInside, EndsEarly, EndsFailed, Does}
 use Rattle.trustmc.proofs.Quitting.{until_front, until_there, has_front}
-use Rattle.trustmc.proofs.Servings.{grows_none}
-use Rattle.trustmc.proofs.Sources.{none_came, whole_so_far}
 
 -- the plain store has the replies of the classes
 outputs_of : (messages : List Message) (readings : List ℕ) (replies : List (List ShardReply)) (classes : List Class) → ClassesRun new_classes (commands_of messages) (moments_of readings) replies classes → Outputs messages readings (rendered (shown_of_all messages replies))

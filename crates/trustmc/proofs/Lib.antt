@@ -3,5 +3,6 @@ pub mod Commands
 pub mod Servings
 pub mod Cuts
 pub mod Sources
+pub mod Going
 pub mod Endings
 pub mod Rounds

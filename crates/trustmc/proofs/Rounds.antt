@@ -1,5 +1,5 @@
 -- One read of a connection, and what it brought.
-use Rattle.std.proofs.Common.{◌≡◌, ◌≢◌, ℕ, ◌+◌, ◌-◌, ◌<◌, ◌≤◌, min, Bool, true, false, List, [], ◌++◌, length, take, drop, Option, Some, Result, Ok, Err, refl, sym, ap, subst, ◌∙◌, arith, append_assoc, length-append}
+use Rattle.std.proofs.Common.{◌≡◌, ◌≢◌, ℕ, ◌-◌, ◌<◌, ◌≤◌, min, false, List, [], ◌++◌, length, take, drop, Option, Result, Ok, Err, refl, sym, ap, subst, ◌∙◌, arith, append_assoc, length-append}
 use Rattle.std.proofs.lemmas.List.{take_all, take-append-drop, length-take-le}
 use Rattle.tm_base.specs.Told.{Stays, Gives, IsEmptyWhereTold}
 use Rattle.mc_grammar.specs.declared.progress.Progress.{Progress}
@@ -16,7 +16,7 @@ use Rattle.trustmc.specs.Input.{CameSoFar}
 use Rattle.trustmc.specs.Answering.{is_quit_heard, IsServed, ServesOn, AnswersPiece, CutsOff}
 use Rattle.trustmc.specs.Ends.{status_of, IsEndAt}
 use Rattle.trustmc.specs.Runs.{told, Does}
-use Rattle.trustmc.specs.Going.{IsGoing}
+use Rattle.trustmc.proofs.Going.{IsGoing}
 use Rattle.trustmc.proofs.Servings.{none_served}
 use Rattle.trustmc.proofs.Cuts.{cut_here}
 use Rattle.trustmc.proofs.Sources.{none_came, more_came, same_came, all_came, whole_so_far, within_most}

@@ -1,18 +1,15 @@
 -- A connection that has answered some bytes, and then more.
-use Rattle.std.proofs.Common.{◌≡◌, ℕ, Bool, true, false, List, [], ◌∷◌, ◌++◌, length, take, drop, ◌+◌, ◌-◌, Option, Some, Result, Ok, Err, refl, sym, ap, subst, ◌∙◌, append_assoc}
+use Rattle.std.proofs.Common.{◌≡◌, ℕ, Bool, false, List, [], ◌∷◌, ◌++◌, length, take, drop, ◌+◌, ◌-◌, Option, Some, Result, Ok, Err, refl, sym, ap, subst, ◌∙◌, append_assoc}
 use Rattle.std.specs.Prelude.{OnOk}
 use Rattle.std.proofs.lemmas.List.{append-nil}
 use Rattle.tm_base.specs.Told.{Grows}
 use Rattle.mc_model.specs.declared.message.Command.{Command}
 use Rattle.mc_model.specs.declared.message.Fault.{Fault}
-use Rattle.mc_model.specs.declared.message.Message.{Message}
 use Rattle.mc_model.specs.declared.message.Message.TheVariants as message
-use Rattle.mc_model.specs.declared.reply.ShardReply.{ShardReply}
 use Rattle.mc_model.specs.Moments.{latest, moments_of}
 use Rattle.mc_model.specs.Quits.{is_quit_command}
 use Rattle.mc_model.specs.Showing.{shown_of, shown_of_fault, commands_of}
 use Rattle.mc_model.specs.Rendering.{bytes_of}
-use Rattle.mc_model.specs.Class.{Class}
 use Rattle.mc_grammar.specs.declared.progress.Progress.{Progress}
 use Rattle.mc_grammar.specs.declared.reader.Next.{Next}
 use Rattle.mc_grammar.specs.declared.reader.Next.TheVariants as next
@@ -21,7 +18,7 @@ use Rattle.mc_grammar.specs.Reading.{IsRead, ReadsOn, ReadsItem, Comes, ReadsNex
 use Rattle.mc_grammar.proofs.ReadFacts.{none_read}
 use Rattle.mc_grammar.proofs.Piecewise.{from_place}
 use Rattle.mc_classes.specs.Classes.{new_classes}
-use Rattle.mc_classes.specs.Replies.{ClassesReply, ClassesRun}
+use Rattle.mc_classes.specs.Replies.{ClassesReply}
 use Rattle.mc_session.specs.Session.{Serving, first_serving, with_shown, Answered}
 use Rattle.trustmc.specs.declared.answering.Heard.{Heard}
 use Rattle.trustmc.specs.declared.answering.Heard.TheVariants.{All, Quit}

@@ -1,5 +1,5 @@
 -- What a connection has answered of a stream.
-use Rattle.std.specs.Prelude.{◌≡◌, ℕ, ◌≤◌, Bool, true, false, List, [], ◌∷◌, ◌++◌, length, take, Option, Some}
+use Rattle.std.specs.Prelude.{◌≡◌, ℕ, ◌≤◌, Bool, true, false, List, ◌++◌, length, take, Option, Some}
 use Rattle.std.specs.List.{fold}
 use Rattle.tm_base.specs.Told.{Grows}
 use Rattle.mc_model.specs.declared.message.Message.{Message}

@@ -1,5 +1,5 @@
 use Rattle.std.proofs.Common.{◌≡◌, vec_len}
-use Rattle.trustmc.specs.Going.{IsGoing}
+use Rattle.trustmc.proofs.Going.{IsGoing}
 use Rattle.trustmc.proofs.connection.answer_all.Given as goal
 
 abbrev pub invariant-loop-came : goal.invariant-loop-came
