@@ -1,0 +1,6 @@
+pub mod Lists
+pub mod Seeks
+pub mod Sound
+pub mod At
+pub mod Swept
+pub mod Queues

@@ -1,0 +1,6 @@
+pub mod Live
+pub mod Left
+pub mod Listing
+pub mod Lending
+pub mod Stock
+pub mod LendingObjects
