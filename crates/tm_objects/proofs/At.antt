@@ -1,17 +1,17 @@
 -- Lemmas on one object among sound slots, as the calls on all live objects need them.
-use Rattle.std.proofs.Common.{◌≡◌, ◌≢◌, ◌⊎◌, ℕ, zero, suc, ◌+◌, ◌-◌, ◌<◌, ◌≤◌, Bool, true, false, cond, not, List, [], ◌∷◌, ◌++◌, length, get_or, set, Option, Some, None, refl, sym, ap, subst, ◌∙◌, inl, inr, arith, length-append, length-set}
-use Rattle.std.specs.Prelude.{map, filter, find, sum, replicate, option_to_list, ◌==◌, IsSome, IsSomeAnd, All}
-use Rattle.std.proofs.lemmas.Bool.{cases_eq, eq-eqb, ne_eqb}
-use Rattle.std.proofs.lemmas.List.{length-map, get_or-replicate, length-replicate}
+use Rattle.std.proofs.Common.{◌≡◌, ◌≢◌, ℕ, ◌+◌, ◌<◌, ◌≤◌, List, [], ◌∷◌, ◌++◌, length, get_or, set, Option, Some, None, refl, sym, ap, subst, ◌∙◌, inl, inr, arith, length-append, length-set}
+use Rattle.std.specs.Prelude.{sum, replicate, IsSome, IsSomeAnd, All}
+use Rattle.std.proofs.lemmas.Bool.{cases_eq}
+use Rattle.std.proofs.lemmas.List.{get_or-replicate, length-replicate}
 use Rattle.std.proofs.lemmas.List.Sums.{sum_by-set}
 use Rattle.std.proofs.lemmas.List.Elements.{All-pop}
 use Rattle.slab.specs.Slab.{Slab, get, Updates, slab_len, with_value}
 use Rattle.slab.proofs.SlabLemmas.{Updates-with_value}
-use Rattle.tm_objects.specs.Live.{Live, LiveList, total, is_held, object_of, change, kept, without, with_holds, with_launches, holds_of, first_held}
-use Rattle.tm_objects.specs.Listing.{seek, listed, AreApart, IsStanding, IsSound, if_held, Settles}
+use Rattle.tm_objects.specs.Live.{Live, LiveList, total, object_of, change, kept, holds_of, first_held}
+use Rattle.tm_objects.specs.Listing.{seek, listed, IsStanding, IsSound, if_held, Settles}
 use Rattle.tm_objects.proofs.Lists.{same-listed, listed-more, listed-none}
 use Rattle.tm_objects.proofs.Seeks.{OnlyAt, seek-there, seek-others, apart-updated}
-use Rattle.tm_objects.proofs.Sound.{found_object, slot_of_object, change_listed, settle_listed, less_listed, len-with_value, sound_change, sound_less, sound_settle, updates_after, zero_counts}
+use Rattle.tm_objects.proofs.Sound.{found_object, slot_of_object, change_listed, settle_listed, len-with_value, sound_change, updates_after, zero_counts}
 
 -- what an option with a value has
 pub some_has : {X : Type 0} (x : Option X) (P : X → Type 0) → IsSomeAnd x P → (o : X) × (x ≡ Some o) × P o

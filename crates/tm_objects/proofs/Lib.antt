@@ -4,3 +4,4 @@ pub mod Sound
 pub mod At
 pub mod Swept
 pub mod Queues
+pub mod Alike

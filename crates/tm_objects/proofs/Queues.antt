@@ -1,5 +1,5 @@
 -- Lemmas on queues, one for each place.
-use Rattle.std.proofs.Common.{◌≡◌, ℕ, ◌+◌, ◌<◌, List, [], ◌∷◌, ◌++◌, length, get_or, set, Result, Ok, Err, refl, sym, ap, ◌∙◌, arith}
+use Rattle.std.proofs.Common.{◌≡◌, ℕ, ◌+◌, ◌<◌, List, [], ◌∷◌, ◌++◌, length, get_or, set, Result, Ok, Err, refl, sym, ap, ◌∙◌}
 use Rattle.std.specs.Prelude.{map, replicate, All, IsOk, OnOk}
 use Rattle.std.proofs.lemmas.List.{map-append, map-set, get_or-map, length-map, replicate-append-replicate}
 use Rattle.std.proofs.lemmas.List.Elements.{All-set, All-push, All-get_or}

@@ -1,16 +1,16 @@
 -- Lemmas on sound slots, and on the list of their objects.
-use Rattle.std.proofs.Common.{◌≡◌, ◌≢◌, ◌⊎◌, ℕ, zero, suc, ◌+◌, ◌<◌, ◌≤◌, Bool, true, false, cond, not, eqb, List, [], ◌∷◌, ◌++◌, length, get_or, set, Option, Some, None, refl, sym, ap, subst, ◌∙◌, inl, inr, arith, length-append}
-use Rattle.std.specs.Prelude.{map, filter, find, sum, replicate, option_map, option_to_list, is_some, count_by, ◌==◌, IsSome, All}
-use Rattle.std.proofs.lemmas.Bool.{cases_eq, cases_lt, eq-eqb, ne_eqb, eqb-true, eqb-false, cases_Bool}
-use Rattle.std.proofs.lemmas.List.{length-map, append-nil, get_or_past}
+use Rattle.std.proofs.Common.{◌≡◌, ◌≢◌, ℕ, ◌+◌, ◌<◌, Bool, true, false, cond, not, List, [], ◌∷◌, ◌++◌, length, Option, Some, None, refl, sym, ap, subst, ◌∙◌, inl, inr, arith, length-append}
+use Rattle.std.specs.Prelude.{sum, replicate, option_map, is_some, ◌==◌}
+use Rattle.std.proofs.lemmas.Bool.{cases_eq, eq-eqb, ne_eqb}
+use Rattle.std.proofs.lemmas.List.{length-map, append-nil}
 use Rattle.std.proofs.lemmas.List.Sums.{sum_by-set, sum_by-cons}
 use Rattle.std.proofs.lemmas.List.Elements.{All-push}
 use Rattle.slab.specs.Slab.{Slab, get, Updates, slab_len, with_value}
 use Rattle.slab.proofs.SlabLemmas.{Updates-with_value, ContainsKey-within}
 use Rattle.tm_objects.specs.Live.{Live, total, is_held, object_of, change, kept, without}
 use Rattle.tm_objects.specs.Listing.{seek, listed, AreApart, IsStanding, IsSound, if_held, Settles}
-use Rattle.tm_objects.proofs.Lists.{AreNamed, kept_if, find-listed, find-listed_absent, map-listed, filter-listed, same-listed, listed-more, length-listed_less}
-use Rattle.tm_objects.proofs.Seeks.{OnlyAt, seek-found, seek-slot, seek-absent, seek-there, seek-others, apart-updated}
+use Rattle.tm_objects.proofs.Lists.{AreNamed, kept_if, find-listed, find-listed_absent, map-listed, filter-listed, length-listed_less}
+use Rattle.tm_objects.proofs.Seeks.{OnlyAt, seek-found, seek-slot, seek-there, seek-others, apart-updated}
 
 -- counts with the sum 0 are zeros
 pub zero_counts : (xs : List ℕ) → sum xs ≡ 0 → xs ≡ replicate (length xs) 0

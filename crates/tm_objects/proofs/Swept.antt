@@ -1,9 +1,9 @@
 -- Lemmas on slots from which a place has gone.
-use Rattle.std.proofs.Common.{◌≡◌, ◌≢◌, ◌⊎◌, ℕ, zero, suc, ◌+◌, ◌<◌, ◌≤◌, Bool, true, false, cond, not, List, [], ◌∷◌, ◌++◌, length, Option, Some, None, refl, sym, ap, subst, ◌∙◌, inl, inr, arith, length-set}
-use Rattle.std.specs.Prelude.{map, filter, nat_lt, option_map, IfSome, IfNone}
+use Rattle.std.proofs.Common.{◌≡◌, ◌≢◌, ℕ, ◌+◌, ◌≤◌, Bool, true, false, cond, List, length, Option, Some, None, refl, sym, ap, ◌∙◌, inl, inr, arith, length-set}
+use Rattle.std.specs.Prelude.{map, nat_lt, option_map, IfSome, IfNone}
 use Rattle.std.proofs.lemmas.Bool.{cases_eq, cases_lt, lt-ltb, le-ltb}
 use Rattle.std.proofs.lemmas.List.{get_or_past}
-use Rattle.slab.specs.Slab.{Slab, get, Updates, slab_len, with_value}
+use Rattle.slab.specs.Slab.{Slab, get, slab_len, with_value}
 use Rattle.tm_objects.specs.Live.{Live, is_held, with_holds, kept}
 use Rattle.tm_objects.specs.Listing.{seek, listed, AreApart, IsSound, if_held, if_held_beside, Settles}
 use Rattle.tm_objects.proofs.Lists.{kept_if, map-listed, filter-listed}

@@ -4,3 +4,4 @@ pub mod Listing
 pub mod Lending
 pub mod Stock
 pub mod LendingObjects
+pub mod Standing

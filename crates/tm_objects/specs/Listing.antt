@@ -1,5 +1,5 @@
 -- Live objects, found in slots by their ids.
-use Rattle.std.specs.Prelude.{◌≡◌, ◌≢◌, ℕ, zero, suc, ◌+◌, ◌<◌, ◌≤◌, ◌==◌, cond, List, [], ◌∷◌, ◌++◌, length, replicate, slice_index_or, Option, Some, None, option_to_list, All}
+use Rattle.std.specs.Prelude.{◌≡◌, ℕ, zero, suc, ◌+◌, ◌<◌, ◌≤◌, ◌==◌, cond, List, [], ◌∷◌, ◌++◌, length, replicate, slice_index_or, Option, Some, None, option_to_list, All}
 use Rattle.slab.specs.Slab.{Slab, slab_len, get, Updates}
 use Rattle.tm_objects.specs.Live.{Live, total, with_holds, is_held}
 

@@ -1,5 +1,5 @@
 -- What a contract sees of live objects.
-use Rattle.std.specs.Prelude.{◌≡◌, ℕ, ◌+◌, ◌≤◌, ◌==◌, Bool, not, cond, List, [], ◌∷◌, ◌++◌, map, filter, find, sum, length, replicate, slice_index_or, slice_set, Option, Some, None, IsSome, IsSomeAnd, refl}
+use Rattle.std.specs.Prelude.{ℕ, ◌+◌, ◌==◌, Bool, not, cond, List, map, filter, find, sum, replicate, slice_index_or, slice_set, Option, Some, None, IsSomeAnd, refl}
 use Rattle.std.specs.Coded.{Coded, code_by, coded×, coded_ℕ, coded_list}
 
 -- a live object: its id, its value, its number of holds for each place, and the number of its unfinished launches

@@ -1,6 +1,5 @@
 use Rattle.std.proofs.Common.{◌≡◌, ℕ, Some, Contains}
 use Rattle.slab.specs.Slab.{get}
-use Rattle.tm_objects.specs.Live.{Live}
 use Rattle.tm_objects.proofs.slots.search.Given as goal
 
 -- an object of the id is among those that are left, and each of those stands in its slot

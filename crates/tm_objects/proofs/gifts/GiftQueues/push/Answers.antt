@@ -1,10 +1,10 @@
-use Rattle.std.proofs.Common.{◌≡◌, ℕ, ◌+◌, ◌<◌, List, [], ◌∷◌, ◌++◌, length, set, drop, refl, sym, ap, ◌∙◌, arith}
+use Rattle.std.proofs.Common.{◌≡◌, ◌<◌, List, [], ◌∷◌, ◌++◌, length, set, ap, ◌∙◌, arith}
 use Rattle.std.specs.Prelude.{map}
 use Rattle.std.proofs.lemmas.List.{length-map}
-use Rattle.circular_buffer.specs.Buffer.{Buffer, buffer}
+use Rattle.circular_buffer.specs.Buffer.{Buffer}
 use Rattle.tm_batch.specs.declared.message.Name.{Name}
 use Rattle.tm_objects.specs.Stock.{gifts_of}
-use Rattle.tm_objects.proofs.Queues.{on_ok, rooms-set, waiting-set, room_at, waiting_at, rooms-push, waiting-push}
+use Rattle.tm_objects.proofs.Queues.{on_ok, rooms-set, waiting-set, room_at, waiting_at}
 use Rattle.tm_objects.proofs.gifts.GiftQueues.push.Goals as goal
 
 pub invariant_of-self : goal.invariant_of-self

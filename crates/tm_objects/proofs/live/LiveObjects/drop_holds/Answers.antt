@@ -1,6 +1,6 @@
-use Rattle.std.proofs.Common.{◌≡◌, ℕ, ◌+◌, ◌≤◌, List, [], ◌∷◌, length, Option, Some, None, Vec, Global, refl, sym, ap, ◌∙◌, arith}
+use Rattle.std.proofs.Common.{◌≡◌, ℕ, List, Option, Some, None, Vec, Global, ap, arith}
 use Rattle.std.specs.Prelude.{map, IfNone}
-use Rattle.tm_objects.specs.Live.{Live, LiveList, with_holds, kept}
+use Rattle.tm_objects.specs.Live.{with_holds, kept}
 use Rattle.tm_objects.proofs.At.{live_is}
 use Rattle.tm_objects.proofs.Swept.{swept_listed, swept_all, swept_step}
 use Rattle.tm_objects.proofs.live.LiveObjects.drop_holds.Goals as goal

@@ -1,7 +1,6 @@
-use Rattle.std.proofs.Common.{◌≡◌, ◌≢◌, ℕ, ◌+◌, ◌-◌, ◌<◌, ◌≤◌, List, [], ◌∷◌, ◌++◌, length, set, get_or, Some, None, refl, sym, ap, subst, ◌∙◌, arith, length-set}
-use Rattle.tm_objects.specs.Live.{Live, LiveList, object_of, holds_of, total, with_holds, with_launches, with_value, change, kept, without, count_in, total_in}
-use Rattle.tm_objects.specs.Listing.{seek, listed}
-use Rattle.tm_objects.proofs.At.{some_has, some_is, sum-set, named_at, live_is, slot_there, slot_has, found_at, absent_at, sound_write, write_listed, settled_listed}
+use Rattle.std.proofs.Common.{◌+◌, ◌<◌, length, refl, ap, ◌∙◌, arith, length-set}
+use Rattle.tm_objects.specs.Live.{Live, LiveList, holds_of, total, with_holds, change}
+use Rattle.tm_objects.proofs.At.{sum-set, named_at, live_is, slot_has, found_at, sound_write, write_listed}
 use Rattle.tm_objects.proofs.live.LiveObjects.hold.Goals as goal
 
 pub key_of-key-requires : goal.key_of-key-requires

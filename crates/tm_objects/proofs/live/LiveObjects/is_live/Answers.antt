@@ -1,8 +1,8 @@
-use Rattle.std.proofs.Common.{◌≡◌, ◌≢◌, ℕ, ◌+◌, ◌-◌, ◌<◌, ◌≤◌, List, [], ◌∷◌, ◌++◌, length, set, get_or, Some, None, refl, sym, ap, subst, ◌∙◌, arith, length-set}
-use Rattle.tm_objects.specs.Live.{Live, LiveList, object_of, holds_of, total, with_holds, with_launches, with_value, change, kept, without, count_in, total_in}
+use Rattle.std.proofs.Common.{◌≡◌, ◌≢◌, ℕ, List, Some, None, refl, sym, ap, ◌∙◌}
+use Rattle.tm_objects.specs.Live.{Live, LiveList, object_of}
 use Rattle.tm_objects.specs.Listing.{seek, listed}
-use Rattle.tm_objects.proofs.At.{some_has, some_is, sum-set, named_at, live_is, slot_there, slot_has, found_at, absent_at, sound_write, write_listed, settled_listed}
-use Rattle.std.specs.Prelude.{IsSome, IsTrue, IfSome, IfNone, IsSomeAnd, Option, is_some}
+use Rattle.tm_objects.proofs.At.{some_has, found_at, absent_at}
+use Rattle.std.specs.Prelude.{IfSome, IfNone, IsSomeAnd, Option, is_some}
 use Rattle.slab.specs.Slab.{Slab, get}
 use Rattle.tm_objects.specs.Listing.{IsSound}
 use Rattle.tm_objects.proofs.live.LiveObjects.is_live.Goals as goal

@@ -1,7 +1,6 @@
-use Rattle.std.proofs.Common.{◌≡◌, ◌≢◌, ℕ, ◌+◌, ◌-◌, ◌<◌, ◌≤◌, List, [], ◌∷◌, ◌++◌, length, set, get_or, Some, None, refl, sym, ap, subst, ◌∙◌, arith, length-set}
-use Rattle.tm_objects.specs.Live.{Live, LiveList, object_of, holds_of, total, with_holds, with_launches, with_value, change, kept, without, count_in, total_in}
-use Rattle.tm_objects.specs.Listing.{seek, listed}
-use Rattle.tm_objects.proofs.At.{some_has, some_is, sum-set, named_at, live_is, slot_there, slot_has, found_at, absent_at, sound_write, write_listed, settled_listed}
+use Rattle.std.proofs.Common.{ap}
+use Rattle.tm_objects.specs.Live.{LiveList}
+use Rattle.tm_objects.proofs.At.{named_at, slot_there, found_at}
 use Rattle.tm_objects.proofs.live.LiveObjects.total.Goals as goal
 
 pub key_of-key-requires : goal.key_of-key-requires
