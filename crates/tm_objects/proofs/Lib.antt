@@ -5,3 +5,4 @@ pub mod At
 pub mod Swept
 pub mod Queues
 pub mod Alike
+pub mod Rising

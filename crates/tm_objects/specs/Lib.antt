@@ -5,3 +5,4 @@ pub mod Lending
 pub mod Stock
 pub mod LendingObjects
 pub mod Standing
+pub mod Rising

@@ -2,6 +2,7 @@
 ghost use Rattle.std.specs.Prelude.{◌≡◌, ◌+◌, ◌-◌, ◌<◌, ◌≤◌, ◌↔◌, [], ◌∷◌, ◌++◌, map, length, IsTrue, IsSome, IfOk};
 ghost use Rattle.std.specs.Borrow.{sem};
 ghost use Rattle.tm_objects.specs.Left.{left_of};
+ghost use Rattle.tm_objects.specs.Rising.{IsRising};
 ghost use Rattle.tm_objects.specs.Live.{object_of, holds_of, total, with_holds, with_launches, first_held, change, kept, without, HasLive, count_in, total_in};
 
 use crate::entry::Entry;
@@ -57,6 +58,14 @@ impl<V: Drop> LiveObjects<V> {
             most,
             places,
         })
+    }
+
+    /// At most `most` objects are live, and they have rising ids, a count for each place, and a hold
+    /// or a launch. Nothing runs.
+    pub fn known(&self)
+        ensures { IsRising self.now }
+    {
+        let _given = self.given;
     }
 
     /// Whether as many objects are live as may be.

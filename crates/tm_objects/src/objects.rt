@@ -3,6 +3,7 @@ ghost use Rattle.std.specs.Prelude.{◌≡◌, ◌≢◌, ◌+◌, ◌-◌, ◌<
 ghost use Rattle.std.specs.Borrow.{sem};
 ghost use Rattle.tm_batch.specs.declared.message.Refusal.TheVariants.{ObjectsFull, SerialsSpent};
 ghost use Rattle.tm_objects.specs.Left.{left_of};
+ghost use Rattle.tm_objects.specs.Rising.{IsStock};
 ghost use Rattle.tm_objects.specs.Live.{object_of, holds_of, total, with_holds, with_launches, HasLive, count_in, total_in};
 ghost use Rattle.tm_objects.specs.Stock.{gifts_of, no_objects, entrusted, granted, gift_taken, begun, finished, released, reclaimed, closed};
 
@@ -68,6 +69,14 @@ impl<S: Entrusted> Objects<S> {
             gifts: GiftQueues::new(alloc, places)?,
             last_id,
         })
+    }
+
+    /// What holds at any time: at most as many objects are live as may be, and they have rising ids
+    /// below the next one, a count for each place, and a hold or a launch. Nothing runs.
+    pub fn known(&self)
+        ensures { IsStock self.now }
+    {
+        self.live.known();
     }
 
     /// Takes a value as the object of the next id, which a place holds once. It is refused where as
