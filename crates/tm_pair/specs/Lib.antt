@@ -1,3 +1,4 @@
 pub mod Views
 pub mod Sides
 pub mod Calls
+pub mod Rounds

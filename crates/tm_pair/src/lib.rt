@@ -4,6 +4,8 @@
 //! many.
 #![tactic(auto)]
 
+mod round;
 mod table;
 
+pub use round::{answer_nothing, ask_nothing};
 pub use table::{Collected, Held, PairTable, Since};
