@@ -1,5 +1,5 @@
 -- A batch that asks nothing: a good side may send it, and a good trustee's log may grow by it.
-use Rattle.std.proofs.Common.{◌≡◌, ℕ, ◌+◌, ◌-◌, ◌^◌, ◌<◌, ◌≤◌, min, true, false, cond, List, [], ◌∷◌, ◌++◌, length, take, refl, sym, ◌∙◌, ap, subst, arith, eq-eqb, append-nil, slice_index_or, get_or-set_same}
+use Rattle.std.proofs.Common.{◌≡◌, ℕ, ◌+◌, ◌-◌, ◌^◌, ◌<◌, ◌≤◌, min, cond, List, [], ◌∷◌, ◌++◌, length, take, refl, sym, ◌∙◌, ap, subst, eq-eqb, append-nil, slice_index_or, get_or-set_same}
 use Rattle.std.specs.Prelude.{IsSomeAnd, MatchOption}
 use Rattle.std.specs.declared.option.Option.{Option}
 use Rattle.std.specs.declared.option.Option.TheVariants.{None, Some}
@@ -8,11 +8,9 @@ use Rattle.tm_seq.specs.Kind.{Kind}
 use Rattle.tm_batch.specs.BatchList.{BatchList}
 use Rattle.tm_batch.specs.declared.message.Answer.{Answer}
 use Rattle.tm_batch.specs.declared.message.AnswerBatch.{AnswerBatch}
-use Rattle.tm_model.specs.declared.entry.Entry.{Entry}
 use Rattle.tm_model.specs.declared.entry.Entry.TheVariants.{Sent}
 use Rattle.tm_model.specs.State.{State, place_of, place_count}
 use Rattle.tm_model.specs.Serve.{state_after}
-use Rattle.tm_model.specs.Legal.{IsLegal}
 use Rattle.tm_model.specs.Ran.{waiting_after}
 use Rattle.tm_model.specs.Batches.{leaving, batches}
 use Rattle.tm_model.specs.Holds.{launches_in, ended_in}

@@ -1,4 +1,4 @@
-use Rattle.std.proofs.Common.{rules, ◌≡◌, ◌+◌, ◌-◌, ◌^◌, ◌<◌, true, false, min, length, [], sym, refl, ap, ◌∙◌, subst}
+use Rattle.std.proofs.Common.{◌≡◌, ◌+◌, ◌-◌, ◌^◌, ◌<◌, true, false, min, length, sym, ap, ◌∙◌, subst}
 use Rattle.tm_model.specs.State.{place_count}
 use Rattle.tm_model.specs.Serve.{state_after}
 use Rattle.tm_pair.specs.Rounds.{NothingWaits}

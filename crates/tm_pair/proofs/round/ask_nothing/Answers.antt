@@ -1,4 +1,4 @@
-use Rattle.std.proofs.Common.{rules, ◌≡◌, sym, subst}
+use Rattle.std.proofs.Common.{rules, sym, subst}
 use Rattle.tm_model.specs.Orderly.{IsOrderly}
 use Rattle.tm_pair.proofs.Nothing as nothing
 use Rattle.tm_pair.proofs.round.ask_nothing.Goals as goal
