@@ -9,7 +9,8 @@ use Rattle.std.specs.Ordering.{nat_cmp}
 use Rattle.std.specs.Cmp.{nat_cmp_is}
 use Rattle.std.specs.List.Sorted.{IsStrictlySortedBy}
 use Rattle.std.proofs.lemmas.Bool.{cases_eq}
-use Rattle.std.proofs.lemmas.List.Sums.{get_or-le-sum_by}
+use Rattle.std.proofs.lemmas.List.{length-map}
+use Rattle.std.proofs.lemmas.List.Sums.{get_or-le-sum_by, length-filter, count_by-le-length}
 use Rattle.tm_seq.specs.declared.kind.Next.{Next}
 use Rattle.tm_seq.specs.declared.kind.Next.TheVariants.{Ask, Done}
 use Rattle.tm_model.specs.State.{Start, Work, Object, holds_of, with_holds, total, change, kept, object_of}
@@ -20,14 +21,7 @@ use Rattle.tm_core.proofs.Every.{all_map, all_each, all_weaker, all_filter, all-
 use Rattle.tm_core.proofs.Rising.{RisesTo}
 
 pub filter_shorter : {X : Type 0} (p : X → Bool) (xs : List X) → length (filter p xs) ≤ length xs
-filter_shorter p [] = omega arith
-filter_shorter p (x ∷ xs) =
-    let more = filter_shorter p xs in
-    elim (p x) as (λ t. length (cond t (x ∷ filter p xs) (filter p xs)) ≤ length (x ∷ xs)) [ true ↦ omega (arith, more) | false ↦ omega (arith, more) ]
-
-pub map_as_long : {X Y : Type 0} (f : X → Y) (xs : List X) → length (map f xs) ≡ length xs
-map_as_long f [] = refl
-map_as_long f (x ∷ xs) = let more = map_as_long f xs in omega (arith, more)
+filter_shorter p xs = rw (length-filter p xs) (count_by-le-length p xs)
 
 pub resumed_works :
     {O R T : Type 0} → (n ticket : ℕ) (works : List (Work T)) (next : Next O T R) → AllByRecursion (λ w. (w.place < n) × (w.ticket < ticket)) works
@@ -107,8 +101,8 @@ module _ {V T : Type 0} where
   pub bounds_of : (n ticket : ℕ) (live : List (Object V T)) → AllByRecursion (IsBoundedObject n ticket) live → AllByRecursion (HasBounds n ticket) live
   bounds_of n ticket live h = all_weaker (IsBoundedObject n ticket) (HasBounds n ticket) live (λ o k. k.0) h
 
-  pub change_shorter : (id : ℕ) (f : Object V T → Object V T) (live : List (Object V T)) → length (change id f live) ≡ length live
-  change_shorter id f live = map_as_long _ live
+  pub change_as_long : (id : ℕ) (f : Object V T → Object V T) (live : List (Object V T)) → length (change id f live) ≡ length live
+  change_as_long id f live = length-map live _
 
   pub granted_bounded :
       (n d id ticket next : ℕ) (live : List (Object V T)) (x : Object V T) → d < n → RisesTo n 1 next live → object_of live id ≡ Some x

@@ -1,9 +1,13 @@
--- What holds of all items of a list, where the list is changed.
-use Rattle.std.proofs.Common.{◌≡◌, ℕ, zero, suc, Bool, true, false, cond, List, [], ◌∷◌, ◌++◌, map, filter, slice_index_or, slice_set, inl, inr, refl, ne_eqb}
+-- Small lemmas: numbers, options, first launches, and what holds of all items of a list that is changed.
+use Rattle.std.proofs.Common.{◌≡◌, ℕ, zero, suc, Bool, true, false, cond, List, [], ◌∷◌, ◌++◌, map, filter, slice_index_or, slice_set, inl, inr, refl, ne_eqb, ◌≤◌, ◌⊎◌, length, sum, arith}
 use Rattle.std.specs.Prelude.{◌==◌}
-use Rattle.std.proofs.lemmas.Bool.{cases_eq}
+use Rattle.std.proofs.lemmas.Bool.{cases_eq, cases_lt}
+use Rattle.std.proofs.lemmas.List.{get_or_past}
+use Rattle.std.proofs.lemmas.List.Sums.{get_or-le-sum_by}
 use Rattle.std.proofs.Math.ListN.{replicate}
 use Rattle.std.specs.List.{AllByRecursion}
+use Rattle.tm_model.specs.State.{Work}
+use Rattle.tm_model.specs.Legal.{HasFirst}
 use Rattle.std.specs.Option.{IsSomeAnd}
 use Rattle.std.specs.declared.option.Option.{Option}
 use Rattle.std.specs.declared.option.Option.TheVariants.{None, Some}
@@ -11,6 +15,28 @@ use Rattle.std.specs.declared.option.Option.TheVariants.{None, Some}
 -- numbers that a test says are the same
 pub is_same : (a b : ℕ) → (a == b) ≡ true → a ≡ b
 is_same a b h = elim (cases_eq a b) [ inl e ↦ e | inr ne ↦ absurd (let no = ne_eqb a b ne in cc) ]
+
+-- an item is no more than all
+pub item_within : (xs : List ℕ) (i : ℕ) → slice_index_or xs i 0 ≤ sum xs
+item_within xs i =
+    elim (cases_lt i (length xs)) [
+      | inl lt ↦ get_or-le-sum_by (λ x. x) xs i 0 lt
+      | inr ge ↦ let none = get_or_past xs i 0 ge in omega (arith, none)
+    ]
+
+-- what holds of a first launch
+pub weaker_first : {T : Type 0} (ws : List (Work T)) (P Q : Work T → Type 0) → ((w : Work T) → P w → Q w) → HasFirst ws P → HasFirst ws Q
+weaker_first [] P Q each h = absurd h
+weaker_first (w ∷ ws) P Q each h = each w h
+
+pub first_both : {T : Type 0} (ws : List (Work T)) (P Q : Work T → Type 0) → HasFirst ws P → AllByRecursion Q ws → HasFirst ws (λ w. P w × Q w)
+first_both [] P Q h all = absurd h
+first_both (w ∷ ws) P Q h all = (h, all.0)
+
+-- there is a value, or none
+pub option_cases : {X : Type 0} (o : Option X) → (o ≡ None) ⊎ ((x : X) × (o ≡ Some x))
+option_cases None = inl refl
+option_cases (Some x) = inr (x, refl)
 
 -- the value that is there
 pub found : {X : Type 0} (o : Option X) (P : X → Type 0) → IsSomeAnd o P → (x : X) × (o ≡ Some x) × P x

@@ -1,10 +1,9 @@
 -- The requests of each place are numbered, and the state counts them.
-use Rattle.std.proofs.Common.{◌≡◌, ◌≢◌, ℕ, ◌+◌, ◌<◌, true, false, List, [], ◌∷◌, length, slice_index_or, slice_set, inl, inr, refl, sym, ◌∙◌, ap, subst, arith, eq-eqb, ne_eqb, zero-add, get_or-set_same, get_or-set_other, length-set}
+use Rattle.std.proofs.Common.{◌≡◌, ◌≢◌, ℕ, ◌+◌, ◌<◌, true, false, List, [], ◌∷◌, length, inl, inr, refl, sym, ◌∙◌, ap, subst, arith, eq-eqb, ne_eqb, zero-add, get_or-set_same, get_or-set_other, length-set}
 use Rattle.std.specs.Prelude.{◌==◌}
 use Rattle.std.specs.List.{range_with_len}
 use Rattle.std.proofs.Math.ListN.{length-replicate, get_or-replicate}
-use Rattle.std.proofs.lemmas.Bool.{cases_eq, cases_lt}
-use Rattle.std.proofs.lemmas.List.{set_past}
+use Rattle.std.proofs.lemmas.Bool.{cases_eq}
 use Rattle.tm_seq.specs.Kind.{Kind}
 use Rattle.tm_seq.specs.declared.kind.Event.{Event}
 use Rattle.tm_seq.specs.declared.kind.Next.{Next}
@@ -15,11 +14,12 @@ use Rattle.tm_batch.specs.declared.message.Answer.{Answer}
 use Rattle.tm_batch.specs.declared.message.Answer.TheVariants.{Entrusted, Replied, Launched, Granted, Released, Reclaimed, ByeDone}
 use Rattle.tm_model.specs.declared.entry.Entry.{Entry}
 use Rattle.tm_model.specs.declared.entry.Entry.TheVariants.{By, Resume, Sent}
-use Rattle.tm_model.specs.State.{Work, Place, State, no_place, place_of, place_count, object_of}
+use Rattle.tm_model.specs.State.{Work, State, no_place, place_of, place_count, object_of}
 use Rattle.tm_model.specs.Serve.{served, counted, completed, resumed, sent_off, works_in, after, state_after}
 use Rattle.tm_model.specs.Legal.{IsLegal}
 use Rattle.tm_model.specs.Ran.{ran, numbers}
 use Rattle.tm_model.specs.Laws.{IsOpening, RequestsAreNumbered}
+use Rattle.tm_core.proofs.Places.{place_field}
 
 module _ {V O R T : Type 0} where
   -- a place of an opening state has nothing
@@ -34,24 +34,11 @@ module _ {V O R T : Type 0} where
     pub places : length new.places ≡ length old.places
     pub served : (c : ℕ) → (place_of new c).served ≡ (place_of old c).served
 
-  place_set :
-      (places : List (Place V O R T)) (d c : ℕ) (p : Place V O R T) → p.served ≡ (slice_index_or places d no_place).served
-      → (slice_index_or (slice_set places d p) c no_place).served ≡ (slice_index_or places c no_place).served
-  place_set places d c p same =
-      elim (cases_eq c d) [
-        | inl e ↦
-            elim (cases_lt d (length places)) [
-              | inl lt ↦ rw (e, get_or-set_same places d p no_place lt) same
-              | inr ge ↦ rw (set_past places d p ge) refl
-            ]
-        | inr ne ↦ rw (get_or-set_other places d c p no_place ne) refl
-      ]
-
   served_same : (kind : Kind V O R T) (c : ℕ) (q : Request V O R T) (a : Answer V O R T) (s : State V O R T) → SameCounts s (served kind c q a s)
   served_same kind c (Grant n d) Granted s =
-      record { places = length-set s.places d _; served = λ e. place_set s.places d e _ refl }
+      record { places = length-set s.places d _; served = λ e. place_field (λ p. p.served) s.places d e _ refl }
   served_same kind c Bye ByeDone s =
-      record { places = length-set s.places c _; served = λ e. place_set s.places c e _ refl }
+      record { places = length-set s.places c _; served = λ e. place_field (λ p. p.served) s.places c e _ refl }
   served_same kind c (Entrust v) (Entrusted n) s = record { places = refl; served = λ e. refl }
   served_same kind c (Apply n op) (Replied r) s = record { places = refl; served = λ e. refl }
   served_same kind c (Launch n task) (Launched ticket) s = record { places = refl; served = λ e. refl }
@@ -61,7 +48,7 @@ module _ {V O R T : Type 0} where
 
   completed_same : (ws : List (Work T)) (ticket : ℕ) (next : Next O T R) (s : State V O R T) → SameCounts s (completed ws ticket next s)
   completed_same (w ∷ ws) ticket (Done r) s =
-      record { places = length-set s.places w.place _; served = λ e. place_set s.places w.place e _ refl }
+      record { places = length-set s.places w.place _; served = λ e. place_field (λ p. p.served) s.places w.place e _ refl }
   completed_same _ ticket _ s = record { places = refl; served = λ e. refl }
 
   pub resumed_same :
@@ -71,7 +58,7 @@ module _ {V O R T : Type 0} where
       record { places = done.places; served = λ e. done.served e }
 
   pub sent_same : (c room : ℕ) (s : State V O R T) → SameCounts s (sent_off c room s)
-  sent_same c room s = record { places = length-set s.places c _; served = λ e. place_set s.places c e _ refl }
+  sent_same c room s = record { places = length-set s.places c _; served = λ e. place_field (λ p. p.served) s.places c e _ refl }
 
   counted_own : (c : ℕ) (s : State V O R T) → c < length s.places → (place_of (counted c s) c).served ≡ (place_of s c).served + 1
   counted_own c s lt = rw (get_or-set_same s.places c (record (place_of s c) { served = (place_of s c).served + 1 }) no_place lt) refl

@@ -3,6 +3,7 @@ use Rattle.std.proofs.Common.{◌≡◌, ◌≢◌, ℕ, ◌+◌, ◌-◌, ◌^�
 use Rattle.std.specs.Prelude.{◌==◌}
 use Rattle.std.specs.List.{AllByRecursion}
 use Rattle.std.proofs.lemmas.Bool.{cases_lt}
+use Rattle.std.proofs.lemmas.List.{length-map}
 use Rattle.std.proofs.lemmas.List.Sums.{get_or-le-sum_by}
 use Rattle.std.proofs.lemmas.Map.Keys.{IsStrictlyIncreasing-from_sorted}
 use Rattle.tm_seq.specs.Kind.{Kind}
@@ -20,12 +21,12 @@ use Rattle.tm_model.specs.Serve.{served, completed, works_in, works_resumed, val
 use Rattle.tm_model.specs.Legal.{Serves, MayCome, IsLegal, IsGiftRefused}
 use Rattle.tm_model.specs.Laws.{IsOpening, StatesAreSound}
 use Rattle.tm_core.proofs.Every.{is_same, found, all_map, all_replicate, all_weaker, all_both, all_filter, all-append, all_set, all_at}
-use Rattle.tm_core.proofs.Bounds.{HasBounds, IsBoundedObject, filter_shorter, map_as_long, resumed_works, all_change, bounds_of, kept_bounded, change_shorter, granted_bounded, released_bounded, closed_bounded, launched_bounded, rises_all, rises_sorted, opened_long, opened_bounded}
+use Rattle.tm_core.proofs.Bounds.{HasBounds, IsBoundedObject, filter_shorter, resumed_works, all_change, bounds_of, kept_bounded, change_as_long, granted_bounded, released_bounded, closed_bounded, launched_bounded, rises_all, rises_sorted, opened_long, opened_bounded}
 use Rattle.tm_core.proofs.Ordered.{IsOrdered, after_ordered, log_ordered, opening_ordered}
 
 module _ {V O R T : Type 0} where
   -- ids and tickets are given out up to the last, and what a state has stays within the config
-  record IsBounded (n : ℕ) (built : Setup) (s : State V O R T) : Type 0 where
+  pub record IsBounded (n : ℕ) (built : Setup) (s : State V O R T) : Type 0 where
     pub setup : s.setup ≡ built
     pub next_id : (1 ≤ s.next_id) × (s.next_id ≤ built.config.last_id + 1)
     pub next_ticket : (1 ≤ s.next_ticket) × (s.next_ticket ≤ built.config.last_id + 1)
@@ -43,7 +44,7 @@ module _ {V O R T : Type 0} where
   entrusted_bounded n c id built v s lt room spent ordered h =
       let none : List ℕ = map (λ _. 0) s.places in
       let holds = slice_set none c 1 in
-      let long : length none ≡ n = map_as_long (λ _. 0) s.places ∙ ordered.places in
+      let long : length none ≡ n = length-map s.places (λ _. 0) ∙ ordered.places in
       let within : c < length holds = let same = length-set none c 1 in omega (arith, same, long, lt) in
       let le = get_or-le-sum_by (λ x. x) holds c 0 within in
       let own : slice_index_or holds c 0 ≡ 1 = get_or-set_same none c 1 0 (omega (arith, long, lt)) in
@@ -77,7 +78,7 @@ module _ {V O R T : Type 0} where
     setup = h.setup;
     next_id = h.next_id;
     next_ticket = h.next_ticket;
-    most = rw (change_shorter i.id _ s.live) h.most;
+    most = rw (change_as_long i.id _ s.live) h.most;
     objects = all_change (IsBoundedObject n s.next_ticket) (IsBoundedObject n s.next_ticket) i.id _ s.live (λ o k. k)
         (λ o k. (record { holds = k.0.holds; works = k.0.works }, k.1)) h.objects;
     gifts = h.gifts;
@@ -88,7 +89,7 @@ module _ {V O R T : Type 0} where
         setup = h.setup;
         next_id = h.next_id;
         next_ticket = (omega arith, omega (arith, spent));
-        most = rw (change_shorter i.id _ s.live) h.most;
+        most = rw (change_as_long i.id _ s.live) h.most;
         objects = rw may.1.0 (launched_bounded n c i.id s.next_ticket task s.live lt h.objects);
         gifts = h.gifts;
       }
@@ -101,7 +102,7 @@ module _ {V O R T : Type 0} where
         setup = h.setup;
         next_id = h.next_id;
         next_ticket = h.next_ticket;
-        most = rw (change_shorter i.id _ s.live) h.most;
+        most = rw (change_as_long i.id _ s.live) h.most;
         objects = granted_bounded n d i.id s.next_ticket s.next_id s.live x within ordered.rises at holds h.objects;
         gifts = all_set (λ (p : Place V O R T). length p.gifts ≤ 1024) s.places d _ (let long = length-append (place_of s d).gifts (i ∷ []) in omega (arith, long, few)) h.gifts;
       }
@@ -111,7 +112,7 @@ module _ {V O R T : Type 0} where
     next_ticket = h.next_ticket;
     most =
         let less = filter_shorter (λ o. not (total o == 0)) (change i.id (λ o. with_holds c (holds_of o c - 1) o) s.live) in
-        let same = change_shorter i.id (λ o. with_holds c (holds_of o c - 1) o) s.live in
+        let same = change_as_long i.id (λ o. with_holds c (holds_of o c - 1) o) s.live in
         let most = h.most in
         omega (arith, less, same, most);
     objects = released_bounded n c i.id s.next_ticket s.live h.objects;
@@ -132,7 +133,7 @@ module _ {V O R T : Type 0} where
     next_ticket = h.next_ticket;
     most =
         let less = filter_shorter (λ o. not (total o == 0)) (map (λ o. with_holds c 0 o) s.live) in
-        let same = map_as_long (λ o. with_holds c 0 o) s.live in
+        let same = length-map s.live (λ o. with_holds c 0 o) in
         let most = h.most in
         omega (arith, less, same, most);
     objects = closed_bounded n c s.next_ticket s.live h.objects;
@@ -152,7 +153,7 @@ module _ {V O R T : Type 0} where
   }
   completed_bounded n built _ ticket _ s h = h
 
-  after_bounded :
+  pub after_bounded :
       (kind : Kind V O R T) (n : ℕ) (built : Setup) (s : State V O R T) (e : Entry V O R T)
       → n ≡ place_count built → MayCome kind s e → IsOrdered n s → IsBounded n built s → IsBounded n built (after kind s e)
   after_bounded kind n built s (By c k q a) is may ordered h =
@@ -175,7 +176,7 @@ module _ {V O R T : Type 0} where
         most =
             let f : Object V T → Object V T = λ o. record o { value = value_advanced kind o.value o.works event next; works = works_resumed o.works next } in
             let less = filter_shorter (λ o. not (total o == 0)) (change id f s.live) in
-            let same = change_shorter id f s.live in
+            let same = change_as_long id f s.live in
             let most = h.most in
             omega (arith, less, same, most);
         objects = kept_bounded n s.next_ticket _
@@ -201,7 +202,7 @@ module _ {V O R T : Type 0} where
       log_bounded kind n built (after kind s e) es is legal.1 (after_ordered kind n s e legal.0 ordered) (after_bounded kind n built s e is legal.0 ordered h)
 
 module _ {V O R T : Type 0} where
-  opening_bounded : (opening : State V O R T) → IsOpening opening → IsBounded (place_count opening.setup) opening.setup opening
+  pub opening_bounded : (opening : State V O R T) → IsOpening opening → IsBounded (place_count opening.setup) opening.setup opening
   opening_bounded opening (number, config, first, can, below, is) =
       let n = config.clients + number in
       let here = placed_on number first in

@@ -17,7 +17,11 @@ pub use laws::{
     SlotLog, answer_keeps_slots, collect_keeps_slots, first_slots_are_good, publish_keeps_slots,
     see_keeps_slots, steps_keep_slots,
 };
-pub use log_laws::states_are_sound;
+pub use log_laws::{
+    batches_are_told, completions_are_of_launches, held_are_live, histories_tell_values,
+    ids_never_return, launches_are_latched, longer_logs_add, reclaims_are_of_histories,
+    replies_are_of_histories, resumes_are_of_histories, states_are_sound,
+};
 pub use machine::Core;
 pub use step::{Step, StepRefused};
 

@@ -25,6 +25,7 @@ use Rattle.tm_model.specs.Opening.{opening_of}
 use Rattle.tm_model.specs.Serve.{state_after}
 use Rattle.tm_model.specs.Legal.{MayCome, IsLegal}
 use Rattle.tm_model.specs.Batches.{batches}
+use Rattle.tm_model.specs.Given.{ids_given, tickets_given, ended_for}
 use Rattle.tm_model.specs.History.{history_of, lived}
 use Rattle.tm_model.specs.Slots.{no_slot}
 use Rattle.tm_model.specs.Holds.{held}
@@ -259,6 +260,26 @@ crossing-legal = (
 
 crossing-ready : map (λ r. r.ticket) (place_of (state_after counter_kind pair crossing) 0).ready ≡ 2 ∷ 1 ∷ []
 crossing-ready = refl
+
+crossing-tickets : tickets_given crossing ≡ 1 ∷ 2 ∷ []
+crossing-tickets = refl
+
+-- both launches are of client 0, and end in that order
+crossing-ended : map (λ r. r.ticket) (ended_for 0 crossing) ≡ 2 ∷ 1 ∷ []
+crossing-ended = refl
+
+crossing-ended_other : ended_for 1 crossing ≡ []
+crossing-ended_other = refl
+
+-- a refused launch gives no ticket out, and a refused value no id
+spending-tickets : tickets_given spending ≡ 1 ∷ []
+spending-tickets = refl
+
+spending-ids : ids_given spending ≡ []
+spending-ids = refl
+
+again-ids : ids_given again ≡ 2 ∷ []
+again-ids = refl
 
 -- a reclaim that is refused brings its own hold back, and no other
 abbrev Requests : Type 0

@@ -1,5 +1,5 @@
 -- What happened to one object, and the value that this leaves.
-use Rattle.std.specs.Prelude.{ℕ, ◌==◌, Bool, false, cond, List, [], ◌∷◌, ◌++◌, filter}
+use Rattle.std.specs.Prelude.{◌≡◌, ℕ, ◌==◌, Bool, false, cond, List, [], ◌∷◌, ◌++◌, filter}
 use Rattle.std.specs.declared.option.Option.{Option}
 use Rattle.std.specs.declared.option.Option.TheVariants.{None, Some}
 use Rattle.tm_seq.specs.Kind.{Kind}
@@ -62,3 +62,8 @@ module _ {V O R T : Type 0} where
   -- the value with which an id was entrusted, at the opening or in a log
   abbrev pub first_value : State V O R T → List (Entry V O R T) → ℕ → Option V
   first_value opening log id = or_else (value_in (object_of opening.live id)) (entrusted_in id log)
+
+  -- the history of an id in a log leaves a value and unfinished tasks of what was entrusted
+  abbrev pub Leaves : Kind V O R T → State V O R T → List (Entry V O R T) → ℕ → V → List T → Type 0
+  Leaves kind opening log id value tasks =
+      (v : V) × (first_value opening log id ≡ Some v) × ((value, tasks) ≡ lived kind v [] (history_of id log))

@@ -1,27 +1,34 @@
 -- What holds of all logs, states and cores: the statements, each proved as the contract of a function that cites it.
-use Rattle.std.specs.Prelude.{◌≡◌, ℕ, ◌+◌, ◌^◌, ◌<◌, ◌≤◌, true, List, [], ◌∷◌, ◌++◌, length, map}
-use Rattle.std.specs.declared.option.Option.TheVariants.{Some}
-use Rattle.std.specs.List.{AllByRecursion, range_with_len}
+use Rattle.std.specs.Prelude.{◌≡◌, ◌≢◌, ℕ, nat_eq, ◌+◌, ◌^◌, ◌<◌, ◌≤◌, true, List, [], ◌∷◌, ◌++◌, length, map}
+use Rattle.std.specs.declared.option.Option.TheVariants.{None, Some}
+use Rattle.std.specs.List.{AllByRecursion, IsDistinct, range_with_len}
 use Rattle.std.specs.List.Sorted.{IsStrictlyIncreasing}
-use Rattle.tm_seq.specs.Kind.{Kind}
+use Rattle.tm_seq.specs.Kind.{Kind, IsRun, IsResume}
+use Rattle.tm_seq.specs.declared.kind.Event.{Event}
+use Rattle.tm_seq.specs.declared.kind.Next.{Next}
+use Rattle.tm_batch.specs.declared.message.Name.{Name}
 use Rattle.tm_batch.specs.declared.config.Config.{Config}
 use Rattle.tm_batch.specs.declared.config.First.{First}
 use Rattle.tm_batch.specs.declared.message.Request.{Request}
-use Rattle.tm_batch.specs.declared.message.Request.TheVariants.{Bye}
+use Rattle.tm_batch.specs.declared.message.Request.TheVariants.{Apply, Reclaim, Bye}
 use Rattle.tm_batch.specs.declared.message.Answer.{Answer}
+use Rattle.tm_batch.specs.declared.message.Answer.TheVariants.{Replied, Reclaimed}
 use Rattle.tm_batch.specs.declared.message.AnswerBatch.{AnswerBatch}
 use Rattle.tm_model.specs.declared.entry.Entry.{Entry}
+use Rattle.tm_model.specs.declared.entry.Entry.TheVariants.{By, Resume}
 use Rattle.tm_model.specs.State.{Object, State, total, object_of, place_of, place_count, IsHeld}
 use Rattle.tm_model.specs.Opening.{IsBuildable, opening_of}
-use Rattle.tm_model.specs.Serve.{state_after}
+use Rattle.tm_model.specs.Serve.{value_run, value_resumed, state_after}
 use Rattle.tm_model.specs.Legal.{IsLegal}
-use Rattle.tm_model.specs.History.{history_of, lived, first_value}
+use Rattle.tm_model.specs.Lists.{IsPrefix}
+use Rattle.tm_model.specs.Given.{ids_given, tickets_given, ended_for, completions_in}
+use Rattle.tm_model.specs.History.{history_of, lived, first_value, Leaves}
 use Rattle.tm_model.specs.Latched.{IsLatched}
 use Rattle.tm_model.specs.Slots.{Taken, Asked, MayPublish, slot_of, publish, see, collect, first_core}
 use Rattle.tm_model.specs.GoodSlots.{IsSettled, Adds}
 use Rattle.tm_model.specs.Ran.{mark_of, ran, numbers, answered, waiting_after}
 use Rattle.tm_model.specs.Batches.{batches}
-use Rattle.tm_model.specs.Holds.{Names, has_bye, launches_in, answers_in, unfinished}
+use Rattle.tm_model.specs.Holds.{Names, has_bye, launches_in, held, answers_in, unfinished}
 use Rattle.tm_model.specs.Orderly.{IsOrderly, GrantsBelow, IsOfTrustee}
 use Rattle.tm_model.specs.Good.{FullCore, IsGood}
 use Rattle.tm_model.specs.Entries.{AreResumes, entries_by, added}
@@ -88,9 +95,58 @@ module _ {V O R T : Type 0} where
         → (v : V) × (first_value opening log id ≡ Some v)
         × ((o.value, map (λ w. w.task) o.works) ≡ lived kind v [] (history_of id log))
 
+    -- each reply of an apply is lawful on the value that the history before it leaves
+    abbrev pub RepliesAreOfHistories : Type 0
+    RepliesAreOfHistories =
+        (opening : State V O R T) (log es : List (Entry V O R T)) (c k : ℕ) (n : Name) (op : O) (r : R) → IsOpening opening
+        → IsLegal kind opening (log ++ By c k (Apply n op) (Replied r) ∷ es)
+        → (v : V) × (tasks : List T) × Leaves kind opening log n.id v tasks × IsRun kind v op (value_run kind v op r) r
+
+    -- each resume is of the first unfinished task that the history before it leaves, and lawful on its value
+    abbrev pub ResumesAreOfHistories : Type 0
+    ResumesAreOfHistories =
+        (opening : State V O R T) (log es : List (Entry V O R T)) (id ticket : ℕ) (event : Event R) (next : Next O T R) → IsOpening opening
+        → IsLegal kind opening (log ++ Resume id ticket event next ∷ es)
+        → (v : V) × (task : T) × (tasks : List T)
+        × Leaves kind opening log id v (task ∷ tasks) × IsResume kind v task event (value_resumed kind v task event next) next
+
+    -- a value that is taken back is the one that its history leaves, with no task unfinished, and its id is never live again
+    abbrev pub ReclaimsAreOfHistories : Type 0
+    ReclaimsAreOfHistories =
+        (opening : State V O R T) (log es : List (Entry V O R T)) (c k : ℕ) (n : Name) (v : V) → IsOpening opening
+        → IsLegal kind opening (log ++ By c k (Reclaim n) (Reclaimed v) ∷ es)
+        → Leaves kind opening log n.id v []
+        × (object_of (state_after kind opening (log ++ By c k (Reclaim n) (Reclaimed v) ∷ es)).live n.id ≡ None)
+
     -- in a legal log launched work on each object is latched
     abbrev pub LaunchesAreLatched : Type 0
     LaunchesAreLatched = (opening : State V O R T) (log : List (Entry V O R T)) → IsOpening opening → IsLegal kind opening log → IsLatched log
+
+    -- a longer log only adds: what ran for a place, its answers and its answer batches go on
+    abbrev pub LongerLogsAdd : Type 0
+    LongerLogsAdd =
+        (opening : State V O R T) (log es : List (Entry V O R T)) (c : ℕ)
+        → IsPrefix (ran c log) (ran c (log ++ es)) × IsPrefix (answered c log) (answered c (log ++ es))
+        × IsPrefix (batches kind opening c log) (batches kind opening c (log ++ es))
+
+    -- ids and tickets are given out in order, each once; an id that was given out and is not live is never live again
+    abbrev pub IdsNeverReturn : Type 0
+    IdsNeverReturn =
+        (opening : State V O R T) (log es : List (Entry V O R T)) → IsOpening opening → IsLegal kind opening (log ++ es)
+        → (ids_given log ≡ range_with_len opening.next_id (length (ids_given log)))
+        × ((state_after kind opening log).next_id ≡ opening.next_id + length (ids_given log))
+        × (tickets_given log ≡ range_with_len 1 (length (tickets_given log)))
+        × ((state_after kind opening log).next_ticket ≡ 1 + length (tickets_given log))
+        × ((id : ℕ) → id < (state_after kind opening log).next_id → object_of (state_after kind opening log).live id ≡ None
+        → object_of (state_after kind opening (log ++ es)).live id ≡ None)
+
+    -- the completions that left for a place, and those that are ready, are those of its launches that ended, each once, in order
+    abbrev pub CompletionsAreOfLaunches : Type 0
+    CompletionsAreOfLaunches =
+        (opening : State V O R T) (log : List (Entry V O R T)) (c : ℕ) → IsOpening opening → IsLegal kind opening log
+        → c < place_count opening.setup
+        → (completions_in (batches kind opening c log) ++ (place_of (state_after kind opening log) c).ready ≡ ended_for c log)
+        × IsDistinct nat_eq (map (λ x. x.ticket) (ended_for c log))
 
     -- the answers of the batches that left for a place, and those that have not left, are the answers to its requests
     abbrev pub BatchesHaveAllAnswers : Type 0
@@ -160,3 +216,10 @@ module _ {V O R T : Type 0} where
         → IsOpening opening → IsGood kind opening core → c < length core.slots
         → ((slot_of core c).box ≡ Asked b room → IsTold opening core.log c b)
         × ((slot_of core c).box ≡ Taken b room → IsTold opening core.log c b)
+
+    -- an id that a place holds by what it sent and got, before its Bye, is live and held by it
+    abbrev pub HeldAreLive : Type 0
+    HeldAreLive =
+        (opening : State V O R T) (core : FullCore V O R T) (c id : ℕ) → IsOpening opening → IsGood kind opening core → c < length core.slots
+        → has_bye (slot_of core c).sent ≢ true → 1 ≤ held opening c (slot_of core c).sent (slot_of core c).got id
+        → IsHeld (state_after kind opening core.log) c id

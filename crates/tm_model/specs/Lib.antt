@@ -4,6 +4,7 @@ pub mod Opening
 pub mod Serve
 pub mod Legal
 pub mod History
+pub mod Given
 pub mod Latched
 pub mod Slots
 pub mod GoodSlots
