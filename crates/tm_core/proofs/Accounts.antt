@@ -92,7 +92,7 @@ module _ {V O R T : Type 0} where
       }
 
   pub see_keeps_good : (kind : Kind V O R T) → SeeKeepsGood kind
-  see_keeps_good kind opening core c is lt good =
+  see_keeps_good kind opening core c lt good =
       let slot = slot_of core c in
       record {
         slots = see_keeps mark_of (batches kind opening) (IsLegal kind opening) core c lt good.slots;
@@ -164,7 +164,7 @@ module _ {V O R T : Type 0} where
       }
 
   pub collect_keeps_good : (kind : Kind V O R T) → CollectKeepsGood kind
-  collect_keeps_good kind opening core c is lt good =
+  collect_keeps_good kind opening core c lt good =
       let slot = slot_of core c in
       record {
         slots = collect_keeps mark_of (batches kind opening) (IsLegal kind opening) core c lt good.slots;
@@ -237,7 +237,7 @@ module _ {V O R T : Type 0} where
       }
 
   pub publish_keeps_good : (kind : Kind V O R T) → PublishKeepsGood kind
-  publish_keeps_good kind opening core c b room is may orderly good =
+  publish_keeps_good kind opening core c b room may orderly good =
       let slot = slot_of core c in
       let was : IsGoodSlot mark_of (batches kind opening) (IsLegal kind opening) core.log c slot = good.slots.slots c may.in_range in
       let agrees : Agrees mark_of (batches kind opening) (IsLegal kind opening) Empty slot c core.log =

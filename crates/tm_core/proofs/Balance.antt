@@ -30,7 +30,8 @@ two_holds holds c d ne =
           ]
     ]
 
-one_hold : (holds : List ℕ) (c : ℕ) → slice_index_or holds c 0 ≤ sum holds
+-- and so does one
+pub one_hold : (holds : List ℕ) (c : ℕ) → slice_index_or holds c 0 ≤ sum holds
 one_hold holds c =
     elim (cases_lt c (length holds)) [
       | inl lt ↦ get_or-le-sum_by (λ x. x) holds c 0 lt

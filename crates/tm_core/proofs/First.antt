@@ -22,7 +22,7 @@ nothing_launched T c places id [] = refl
 nothing_launched T c places id (f ∷ first) = let more = nothing_launched T c places (id + 1) first in omega (arith, more)
 
 module _ {V O R T : Type 0} where
-  opening_unfinished : (opening : State V O R T) (c : ℕ) → IsOpening opening → unfinished c opening.live ≡ 0
+  pub opening_unfinished : (opening : State V O R T) (c : ℕ) → IsOpening opening → unfinished c opening.live ≡ 0
   opening_unfinished opening c (number, config, first, can, below, is) =
       rw is (nothing_launched T c (config.clients + number) 1 (placed_on number first))
 

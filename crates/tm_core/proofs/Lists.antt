@@ -21,6 +21,11 @@ module _ {X : Type 0} where
       let first : y ≡ b = cc in
       elim (split xs ys before x after rest) [ inl (mid, p, q) ↦ inl (mid, cc, q) | inr (mid, p, q) ↦ inr (mid, cc, q) ]
 
+  -- where two lists that are joined are empty, the first is
+  pub front_empty : (xs ys : List X) → xs ++ ys ≡ [] → xs ≡ []
+  front_empty [] ys e = refl
+  front_empty (x ∷ xs) ys e = absurd cc
+
   not_empty : (xs : List X) (x : X) → [] ≢ xs ++ x ∷ []
   not_empty [] x e = cc
   not_empty (y ∷ xs) x e = cc

@@ -1,4 +1,4 @@
--- In the state that a legal log leaves, ids rise and each object has holds for all places.
+-- In the state that a legal log leaves, ids rise, each object has holds for all places, and there are as many places as ever.
 use Rattle.std.proofs.Common.{◌≡◌, ℕ, suc, ◌+◌, List, [], ◌∷◌, length, map, refl, ◌∙◌, subst, arith, length-set}
 use Rattle.std.proofs.lemmas.List.{length-map}
 use Rattle.std.proofs.lemmas.List.FromFn.{length-map-range_with_len}
@@ -25,6 +25,7 @@ module _ {V O R T : Type 0} where
   pub record IsOrdered (n : ℕ) (s : State V O R T) : Type 0 where
     pub rises : RisesTo n 1 s.next_id s.live
     pub places : length s.places ≡ n
+    pub count : place_count s.setup ≡ n
 
   served_ordered :
       (kind : Kind V O R T) (n c : ℕ) (q : Request V O R T) (a : Answer V O R T) (s : State V O R T)
@@ -32,43 +33,48 @@ module _ {V O R T : Type 0} where
   served_ordered kind n c (Entrust v) (Entrusted name) s may h = record {
     rises = rises-append n 1 s.next_id s.live _ may.0 (length-set (map (λ _. 0) s.places) c 1 ∙ length-map s.places _ ∙ h.places) h.rises;
     places = h.places;
+    count = h.count;
   }
   served_ordered kind n c (Apply i op) (Replied r) s may h =
-      record { rises = rises_change n 1 s.next_id i.id _ s.live (λ o. refl) (λ o. refl) h.rises; places = h.places }
+      record { rises = rises_change n 1 s.next_id i.id _ s.live (λ o. refl) (λ o. refl) h.rises; places = h.places; count = h.count }
   served_ordered kind n c (Launch i task) (Launched ticket) s may h =
-      record { rises = rises_change n 1 s.next_id i.id _ s.live (λ o. refl) (λ o. refl) h.rises; places = h.places }
+      record { rises = rises_change n 1 s.next_id i.id _ s.live (λ o. refl) (λ o. refl) h.rises; places = h.places; count = h.count }
   served_ordered kind n c (Grant i d) Granted s may h = record {
     rises = rises_change n 1 s.next_id i.id _ s.live (λ o. refl) (λ o. length-set o.holds d _) h.rises;
     places = length-set s.places d _ ∙ h.places;
+    count = h.count;
   }
   served_ordered kind n c (Release i) Released s may h = record {
     rises = rises_filter n 1 s.next_id _ _ (rises_change n 1 s.next_id i.id _ s.live (λ o. refl) (λ o. length-set o.holds c _) h.rises);
     places = h.places;
+    count = h.count;
   }
   served_ordered kind n c (Reclaim i) (Reclaimed v) s may h =
-      record { rises = rises_filter n 1 s.next_id _ s.live h.rises; places = h.places }
+      record { rises = rises_filter n 1 s.next_id _ s.live h.rises; places = h.places; count = h.count }
   served_ordered kind n c Bye ByeDone s may h = record {
     rises = rises_filter n 1 s.next_id _ _ (rises_map n 1 s.next_id _ s.live (λ o. refl) (λ o. length-set o.holds c 0) h.rises);
     places = length-set s.places c _ ∙ h.places;
+    count = h.count;
   }
   served_ordered kind n c _ _ s may h = h
 
   completed_ordered :
       (n : ℕ) (ws : List (Work T)) (ticket : ℕ) (next : Next O T R) (s : State V O R T) → IsOrdered n s → IsOrdered n (completed ws ticket next s)
-  completed_ordered n (w ∷ ws) ticket (Done r) s h = record { rises = h.rises; places = length-set s.places w.place _ ∙ h.places }
+  completed_ordered n (w ∷ ws) ticket (Done r) s h = record { rises = h.rises; places = length-set s.places w.place _ ∙ h.places; count = h.count }
   completed_ordered n _ ticket _ s h = h
 
   pub after_ordered : (kind : Kind V O R T) (n : ℕ) (s : State V O R T) (e : Entry V O R T) → MayCome kind s e → IsOrdered n s → IsOrdered n (after kind s e)
   after_ordered kind n s (By c k q a) may h =
       let more = served_ordered kind n c q a s may.2 h in
-      record { rises = more.rises; places = length-set (served kind c q a s).places c _ ∙ more.places }
+      record { rises = more.rises; places = length-set (served kind c q a s).places c _ ∙ more.places; count = more.count }
   after_ordered kind n s (Resume id ticket event next) may h =
       completed_ordered n (works_in (object_of s.live id)) ticket next _
       (record {
         rises = rises_filter n 1 s.next_id _ _ (rises_change n 1 s.next_id id _ s.live (λ o. refl) (λ o. refl) h.rises);
         places = h.places;
+        count = h.count;
       })
-  after_ordered kind n s (Sent c room) may h = record { rises = h.rises; places = length-set s.places c _ ∙ h.places }
+  after_ordered kind n s (Sent c room) may h = record { rises = h.rises; places = length-set s.places c _ ∙ h.places; count = h.count }
 
   pub log_ordered : (kind : Kind V O R T) (n : ℕ) (s : State V O R T) (log : List (Entry V O R T)) → IsLegal kind s log → IsOrdered n s → IsOrdered n (state_after kind s log)
   log_ordered kind n s [] legal h = h
@@ -87,4 +93,5 @@ module _ {V O R T : Type 0} where
         rises = let e : 1 + length (placed_on number first) ≡ length (placed_on number first) + 1 = omega arith in
             subst (λ m. RisesTo {V = V} {T = T} (config.clients + number) 1 m (opened (config.clients + number) 1 (placed_on number first))) e (opened_rise T (config.clients + number) 1 (placed_on number first));
         places = length-replicate (config.clients + number) _;
+        count = refl;
       })

@@ -11,7 +11,7 @@ use Rattle.tm_model.specs.State.{State, place_of, holds_at}
 use Rattle.tm_model.specs.Serve.{state_after}
 use Rattle.tm_model.specs.Legal.{IsLegal}
 use Rattle.tm_model.specs.Slots.{Empty, Asked, Taken, Answered, no_slot, slot_of, answered as after_answer}
-use Rattle.tm_model.specs.GoodSlots.{Agrees, Reached, HasSeen, IsGoodSlot}
+use Rattle.tm_model.specs.GoodSlots.{Agrees, Reached, HasSeen, IsSettled, IsGoodSlot}
 use Rattle.tm_model.specs.Ran.{mark_of, ran, waiting_after}
 use Rattle.tm_model.specs.Batches.{batches}
 use Rattle.tm_model.specs.Holds.{has_bye, launches_in, gave, gifts_of, answers_in, ended_in, came, unfinished}
@@ -19,6 +19,7 @@ use Rattle.tm_model.specs.Good.{FullBox, FullSlot, FullCore, unserved, got_with,
 use Rattle.tm_model.specs.Entries.{entries_by, batch_entries, added}
 use Rattle.tm_model.specs.Answering.{MayAnswerWith, answer_with}
 use Rattle.tm_core.proofs.Joins.{growing_adds, growing_few}
+use Rattle.tm_core.proofs.Lists.{front_empty}
 use Rattle.tm_core.proofs.AnswerKeeps.{added_not_of, answer_keeps}
 use Rattle.tm_core.proofs.Marks.{ran-append, ran_none}
 use Rattle.tm_core.proofs.AllAnswers.{batches_have_all_answers}
@@ -41,6 +42,14 @@ module _ {V O R T : Type 0} where
     pub ended : has_bye slot.sent ≡ true → launches_in slot.sent ≡ ended_in slot.got
     pub last : (before after : List (Request V O R T)) → slot.sent ≡ before ++ Bye ∷ after → after ≡ []
     pub out : IsOutInOrder opening c slot.box slot log
+
+  -- a Bye is the last that was run, if it is the last that was sent
+  last_ran :
+      (ran rest sent : List (Request V O R T)) → sent ≡ ran ++ rest
+      → ((before after : List (Request V O R T)) → sent ≡ before ++ Bye ∷ after → after ≡ [])
+      → (before after : List (Request V O R T)) → ran ≡ before ++ Bye ∷ after → after ≡ []
+  last_ran ran rest sent e last before after is =
+      front_empty after rest (last before (after ++ rest) (e ∙ ap (λ l. l ++ rest) is ∙ append_assoc before (Bye ∷ after) rest))
 
   module _ (kind : Kind V O R T) (opening : State V O R T) where
     sent_is :
@@ -155,9 +164,12 @@ module _ {V O R T : Type 0} where
             out = same_out (slot_of core d).box (slot_of core d) d core.log (core.log ++ es) same was.out;
           }
 
-      -- an answer keeps the core good, if the longer log is tallied for each place
+      -- an answer keeps the core good, if the longer log is tallied for each place to which all answers left, and of which nothing ran
+      -- after a Bye
       pub answer_keeps_tallied :
-          ((d : ℕ) → d < length core.slots → IsTallied kind opening d (core.log ++ es) (state_after kind opening (core.log ++ es)))
+          ((d : ℕ) → d < length core.slots → IsSettled mark_of d (core.log ++ es)
+          → ((before after : List (Request V O R T)) → ran d (core.log ++ es) ≡ before ++ Bye ∷ after → after ≡ [])
+          → IsTallied kind opening d (core.log ++ es) (state_after kind opening (core.log ++ es)))
           → IsGood kind opening (answer_with c b room resumes a core)
       answer_keeps_tallied tallied =
           let new = after_answer a (core.log ++ es) room (slot_of core c) in
@@ -173,5 +185,7 @@ module _ {V O R T : Type 0} where
                   | inl e ↦ rw (e, get_or-set_same core.slots c new no_slot may.in_range) kept_own
                   | inr ne ↦ rw (get_or-set_other core.slots c d new no_slot ne) (kept_other d there ne)
                 ] in
-                accounted d _ (core.log ++ es) _ (slots.slots d l) (tallied d there) kept;
+                let place = slots.slots d l in
+                let last = last_ran (ran d (core.log ++ es)) _ _ (sent_is _ _ d (core.log ++ es) place.agrees) kept.last in
+                accounted d _ (core.log ++ es) _ place (tallied d there place.settled last) kept;
           }

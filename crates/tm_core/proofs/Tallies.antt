@@ -5,9 +5,10 @@ use Rattle.tm_batch.specs.declared.message.Name.{Name}
 use Rattle.tm_batch.specs.declared.message.Request.{Request}
 use Rattle.tm_batch.specs.declared.message.Request.TheVariants.{Entrust, Apply, Launch, Grant, Release, Reclaim, Bye}
 use Rattle.tm_batch.specs.declared.message.Answer.{Answer}
+use Rattle.tm_batch.specs.declared.message.Answer.TheVariants.{Entrusted, NotEntrusted, Replied, Launched, TicketsSpent, Granted, Gone, GiftsFull, Released, Reclaimed, Shared, ByeDone}
 use Rattle.tm_batch.specs.declared.message.AnswerBatch.{AnswerBatch}
 use Rattle.tm_model.specs.State.{State}
-use Rattle.tm_model.specs.Holds.{has_bye, launches_in, gave, brought, brought_by, Names, answers_in, gifts_in, gifts_of, ended_in, came}
+use Rattle.tm_model.specs.Holds.{has_bye, launches_in, gave, brought, brought_by, spent_in, Names, answers_in, gifts_in, gifts_of, ended_in, came}
 
 pub gifts_of-append : (id : ℕ) (xs ys : List Name) → gifts_of id (xs ++ ys) ≡ gifts_of id xs + gifts_of id ys
 gifts_of-append id [] ys = omega arith
@@ -76,6 +77,21 @@ module _ {V O R T : Type 0} where
   launches_in-append (Release n ∷ xs) ys = launches_in-append xs ys
   launches_in-append (Reclaim n ∷ xs) ys = launches_in-append xs ys
   launches_in-append (Bye ∷ xs) ys = launches_in-append xs ys
+
+  pub spent_in-append : (xs ys : List (Answer V O R T)) → spent_in (xs ++ ys) ≡ spent_in xs + spent_in ys
+  spent_in-append [] ys = omega arith
+  spent_in-append (TicketsSpent task ∷ xs) ys = let more = spent_in-append xs ys in omega (arith, more)
+  spent_in-append (Entrusted name ∷ xs) ys = spent_in-append xs ys
+  spent_in-append (NotEntrusted refusal v ∷ xs) ys = spent_in-append xs ys
+  spent_in-append (Replied r ∷ xs) ys = spent_in-append xs ys
+  spent_in-append (Launched ticket ∷ xs) ys = spent_in-append xs ys
+  spent_in-append (Granted ∷ xs) ys = spent_in-append xs ys
+  spent_in-append (Gone ∷ xs) ys = spent_in-append xs ys
+  spent_in-append (GiftsFull ∷ xs) ys = spent_in-append xs ys
+  spent_in-append (Released ∷ xs) ys = spent_in-append xs ys
+  spent_in-append (Reclaimed v ∷ xs) ys = spent_in-append xs ys
+  spent_in-append (Shared ∷ xs) ys = spent_in-append xs ys
+  spent_in-append (ByeDone ∷ xs) ys = spent_in-append xs ys
 
   -- a Bye among joined requests is one of the first or of the second
   pub bye_in : (xs ys : List (Request V O R T)) → has_bye (xs ++ ys) ≡ true → (has_bye xs ≡ true) ⊎ (has_bye ys ≡ true)

@@ -1,7 +1,7 @@
 //! What holds of all logs, states and cores of a trustee, for every kind of object.
 //!
 //! Nothing here runs: each function states a law.
-ghost use Rattle.tm_model.specs.Laws.{RequestsAreNumbered, LegalLogsJoin, BatchesHaveAllAnswers, GrowingAdds, FirstIsGood, PublishKeepsGood, SeeKeepsGood, CollectKeepsGood};
+ghost use Rattle.tm_model.specs.Laws.{RequestsAreNumbered, LegalLogsJoin, BatchesHaveAllAnswers, GrowingAdds, FirstIsGood, PublishKeepsGood, SeeKeepsGood, AnswerKeepsGood, CollectKeepsGood};
 ghost use Rattle.tm_model.specs.Leaving.{BatchesJoin};
 
 use tm_seq::Entrusted;
@@ -40,6 +40,11 @@ pub fn see_keeps_good<S: Entrusted>()
 /// An orderly publish keeps the core good.
 pub fn publish_keeps_good<S: Entrusted>()
     ensures { PublishKeepsGood S.kind }
+{}
+
+/// An answer by legal entries keeps the core good, with what each place holds and is owed.
+pub fn answer_keeps_good<S: Entrusted>()
+    ensures { AnswerKeepsGood S.kind }
 {}
 
 /// A look of a client keeps the core good.

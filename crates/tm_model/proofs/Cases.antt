@@ -27,10 +27,12 @@ use Rattle.tm_model.specs.Legal.{MayCome, IsLegal}
 use Rattle.tm_model.specs.Batches.{batches}
 use Rattle.tm_model.specs.Given.{ids_given, tickets_given, ended_for}
 use Rattle.tm_model.specs.History.{history_of, lived}
-use Rattle.tm_model.specs.Slots.{no_slot}
+use Rattle.tm_model.specs.Slots.{no_slot, publish, see}
 use Rattle.tm_model.specs.Holds.{held}
 use Rattle.tm_model.specs.Orderly.{IsOrderly}
 use Rattle.tm_model.specs.Good.{FullSlot, FullCore, IsGood}
+use Rattle.tm_model.specs.Answering.{MayAnswerWith}
+use Rattle.tm_model.specs.Laws.{first_of}
 
 abbrev Log : Type 0
 Log = List (Entry Counter CounterOp CounterReply CounterTask)
@@ -310,6 +312,33 @@ over-disorderly : ¬ IsOrderly opening 0 [] [] over
 over-disorderly o =
     let h : 1 < 1 = o.held (Grant (named 1) 0 ∷ Release (named 1) ∷ []) [] (Reclaim (named 1)) 1 refl refl in
     omega (arith, h)
+
+-- a grant to oneself, a launch and a release may be answered so, and the gift leaves with the answers
+abbrev to_oneself : Requests
+to_oneself = Grant (named 1) 0 ∷ Launch (named 1) End ∷ Release (named 1) ∷ []
+
+abbrev from_oneself : AnswerBatch Counter CounterOp CounterReply CounterTask
+from_oneself = record {
+  front = 4;
+  answers = record { items = Granted ∷ Launched 1 ∷ Released ∷ [] };
+  gifts = record { items = named 1 ∷ [] };
+  completions = record { items = [] };
+}
+
+to_oneself-answered : MayAnswerWith counter_kind opening (see 0 (publish 0 to_oneself 16 (first_of opening))) 0 to_oneself 16 [] from_oneself
+to_oneself-answered = record {
+  in_range = lit< tt;
+  is_taken = refl;
+  grows = record {
+    only = tt;
+    as_many = refl;
+    is_legal = (
+      (lit< tt, refl, (lit≤ tt, lit< tt, (refl, λ full. elim full [ inl gifts ↦ omega arith | inr holds ↦ omega arith ]))),
+      ((lit< tt, refl, (lit≤ tt, (refl, lit≤ tt))), ((lit< tt, refl, (lit≤ tt, refl)), ((lit< tt, lit≤ tt), tt))),
+    );
+    last = ([], refl);
+  };
+}
 
 -- a seen log of more than the place got is not good
 abbrev Cores : Type 0

@@ -171,14 +171,14 @@ module _ {V O R T : Type 0} where
     abbrev pub PublishKeepsGood : Type 0
     PublishKeepsGood =
         (opening : State V O R T) (core : FullCore V O R T) (c : ℕ) (b : List (Request V O R T)) (room : ℕ)
-        → IsOpening opening → MayPublish core c b room → IsOrderly opening c (slot_of core c).sent (slot_of core c).got b
+        → MayPublish core c b room → IsOrderly opening c (slot_of core c).sent (slot_of core c).got b
         → IsGood kind opening core → IsGood kind opening (publish c b room core)
 
     -- a look of the trustee keeps the core good
     abbrev pub SeeKeepsGood : Type 0
     SeeKeepsGood =
         (opening : State V O R T) (core : FullCore V O R T) (c : ℕ)
-        → IsOpening opening → c < length core.slots → IsGood kind opening core → IsGood kind opening (see c core)
+        → c < length core.slots → IsGood kind opening core → IsGood kind opening (see c core)
 
     -- an answer by legal entries keeps the core good
     abbrev pub AnswerKeepsGood : Type 0
@@ -192,7 +192,7 @@ module _ {V O R T : Type 0} where
     abbrev pub CollectKeepsGood : Type 0
     CollectKeepsGood =
         (opening : State V O R T) (core : FullCore V O R T) (c : ℕ)
-        → IsOpening opening → c < length core.slots → IsGood kind opening core → IsGood kind opening (collect c core)
+        → c < length core.slots → IsGood kind opening core → IsGood kind opening (collect c core)
 
     -- what is known of a batch of place c that was asked and not yet run, behind a log
     pub record IsTold (opening : State V O R T) (log : List (Entry V O R T)) (c : ℕ) (b : List (Request V O R T)) : Type 0 where
