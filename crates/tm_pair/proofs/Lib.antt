@@ -1,1 +1,3 @@
 mod Nothing
+mod Stepping
+mod Tabling

@@ -1,4 +1,10 @@
-pub mod Views
-pub mod Sides
 pub mod Calls
+pub mod Moves
+pub mod Places
+pub mod Plain
 pub mod Rounds
+pub mod Shown
+pub mod Sides
+pub mod Standing
+pub mod Stands
+pub mod Views

@@ -4,8 +4,15 @@
 //! many.
 #![tactic(auto)]
 
+mod moves;
+mod place;
+mod placed;
+mod plain;
 mod round;
 mod table;
 
+pub use moves::Move;
+pub use placed::Placed;
+pub use plain::{PlainClient, PlainTable, PlainTrustee};
 pub use round::{answer_nothing, ask_nothing};
 pub use table::{Collected, Held, PairTable, Since};
