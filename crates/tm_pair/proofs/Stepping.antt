@@ -218,7 +218,7 @@ module _ {V O R T : Type 0} where
       })
   sees_by kind opening core c (Out batch) new given (Asked b room) at shows gave told =
       let is : (slot_of core c).box ≡ Asked batch.requests batch.room =
-          at ∙ ap (λ q. Asked q room) (sym shows.0) ∙ ap (λ r. Asked batch.requests r) (sym shows.1) in
+      at ∙ ap (λ q. Asked q room) (sym shows.0) ∙ ap (λ r. Asked batch.requests r) (sym shows.1) in
       subst (λ g. MatchOption g (SeesNothing c (trustee_of core) (trustee_of (see c core))) (λ b. Takes kind opening c b.requests b.room (trustee_of core) (trustee_of (see c core)))) (sym gave.1)
       (record {
         log = refl;

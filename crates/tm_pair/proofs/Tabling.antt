@@ -15,13 +15,14 @@ use Rattle.tm_model.specs.State.{State, place_count}
 use Rattle.tm_model.specs.Slots.{Empty, Asked, Taken, Answered, no_slot, slot_of, first_core, publish, published, see, taken, collect, collected, looked, is_answered, answered}
 use Rattle.tm_model.specs.Good.{FullBox, FullSlot, FullCore, IsGood}
 use Rattle.tm_model.specs.Entries.{added}
-use Rattle.tm_model.specs.Answering.{answer_with}
-use Rattle.tm_pair.specs.Views.{ClientView, TrusteeView}
-use Rattle.tm_pair.specs.Stands.{client_of, trustee_of}
+use Rattle.tm_model.specs.Answering.{MayGrow, answer_with}
+use Rattle.tm_pair.specs.Views.{Hand, TrusteeView, hand_of}
+use Rattle.tm_pair.specs.Stands.{room_out, hand_in, trustee_of}
+use Rattle.tm_pair.specs.Standing.{is_in_hand, hand_at, hand_in_range}
 use Rattle.tm_pair.specs.Moves.{answer_taken, after_move, after_moves, core_after}
 use Rattle.tm_pair.specs.Places.{KeepsWords, Gave, Found}
 use Rattle.tm_pair.specs.Shown.{ShowsBox, ShowsSlot, ShowsCore}
-use Rattle.tm_pair.specs.Plain.{opening_at, core_at, IsTable}
+use Rattle.tm_pair.specs.Plain.{opening_at, core_at, IsTable, CollectsExactly}
 use Rattle.tm_pair.specs.declared.table.Collected.{Collected}
 use Rattle.tm_pair.specs.declared.moves.Move.{Move}
 use Rattle.tm_pair.specs.declared.place.Content.{Content}
@@ -29,6 +30,10 @@ use Rattle.tm_pair.specs.declared.place.Content.TheVariants.{Empty as Free, Aske
 use Rattle.tm_pair.specs.declared.place.Place.{Place}
 use Rattle.tm_pair.specs.declared.plain.PlainTable.{PlainTable}
 use Rattle.tm_pair.proofs.Stepping.{looked_at, seen_slot}
+
+found : {X : Type 0} (o : Option X) (P : X → Type 0) → IsSomeAnd o P → (x : X) × (o ≡ Some x) × P x
+found None P h = absurd h
+found (Some x) P h = (x, refl, h)
 
 module _ {V O R T : Type 0} where
   after-append : (xs ys : List (Move V O R T)) (core : FullCore V O R T) → after_moves (xs ++ ys) core ≡ after_moves ys (after_moves xs core)
@@ -160,6 +165,41 @@ module _ {V O R T : Type 0} where
   taken_in_hand (Out q) (Asked requests r) b room shows e = absurd cc
   taken_in_hand (Back a) (Answered answers upto r) b room shows e = absurd cc
   taken_in_hand _ _ b room shows e = absurd shows
+
+  -- nothing of a place is out exactly where its slot is empty
+  pub nothing_out : (box : FullBox V O R T) → room_out box ≡ None → box ≡ Empty
+  nothing_out Empty e = refl
+  nothing_out (Asked b room) e = absurd cc
+  nothing_out (Taken b room) e = absurd cc
+  nothing_out (Answered a upto room) e = absurd cc
+
+  -- a look at a slot that is not free is one of the step
+  pub collects_exactly :
+      (c : ℕ) (content now : Content V O R T) (found : Collected V O R T) (core after : FullCore V O R T) → content ≢ Free → Found content now found
+      → after ≡ collect c core → CollectsExactly c core after found
+  collects_exactly c Free now found core after ne finds e = absurd (ne refl)
+  collects_exactly c (Out b) now found core after ne finds e = rw finds.1 e
+  collects_exactly c InHand now found core after ne finds e = rw finds.1 e
+  collects_exactly c (Back a) now found core after ne finds e = rw finds.1 e
+
+  -- the batch that the trustee may answer
+  pub may_be_answered :
+      (kind : Kind V O R T) (opening : State V O R T) (core : FullCore V O R T) (view : TrusteeView V O R T) (c : ℕ) (resumes : List (Entry V O R T))
+      (a : AnswerBatch V O R T) → view ≡ trustee_of core
+      → IsSomeAnd (hand_of view c) (λ hand. MayGrow kind opening view.log resumes c hand.requests hand.room a)
+      → (hand : Hand V O R T) × (hand_of view c ≡ Some hand) × (hand_of (trustee_of core) c ≡ Some hand) × (c < length core.slots)
+      × ((slot_of core c).box ≡ Taken hand.requests hand.room) × MayGrow kind opening core.log resumes c hand.requests hand.room a
+  may_be_answered kind opening core view c resumes a e may =
+      let (hand, is, grows) = found (hand_of view c) (λ hand. MayGrow kind opening view.log resumes c hand.requests hand.room a) may in
+      let there : hand_of (trustee_of core) c ≡ Some hand = ap (λ (v : TrusteeView V O R T). hand_of v c) (sym e) ∙ is in
+      let boxed : hand_in (slot_of core c).box ≡ Some hand = sym (hand_at core c) ∙ there in (
+        hand,
+        is,
+        there,
+        hand_in_range core c hand boxed,
+        is_in_hand (slot_of core c).box hand boxed,
+        subst (λ (v : TrusteeView V O R T). MayGrow kind opening v.log resumes c hand.requests hand.room a) e grows,
+      )
 
   module _ (kind : Kind V O R T) (table : PlainTable V O R T) (of : IsTable kind table) where
     -- places of a table

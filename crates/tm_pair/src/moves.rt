@@ -1,5 +1,5 @@
 //! What was done at a table in one thread, for contracts alone.
-ghost use Rattle.std.specs.Prelude.{◌≡◌, List, [], ◌∷◌, ◌++◌};
+ghost use Rattle.std.specs.Prelude.{◌≡◌, ◌≤◌, List, [], ◌∷◌, ◌++◌, length};
 ghost use Rattle.tm_pair.specs.declared.moves.Move.TheVariants.{Open, Publish, See, Answer, Collect};
 ghost use Rattle.tm_pair.specs.Moves.{answer_of};
 
@@ -23,6 +23,14 @@ pub enum Move<S: Entrusted> {
     Answer(u32, Told<Entry<S>>, AnswerBatch<S>),
     /// A place looked for answers.
     Collect(u32),
+}
+
+/// A batch has at most 16 requests, and room for at most 16 gifts.
+pub(crate) fn is_bounded<S: Entrusted>(batch: &Batch<S>)
+    ensures requests { length batch.now.requests ≤ 16 }
+    ensures room { batch.now.room ≤ 16 }
+{
+    let _ = (batch.len(), batch.room());
 }
 
 /// The same moves.
@@ -86,10 +94,7 @@ pub(crate) fn collected<S: Entrusted>(past: &Told<Move<S>>, place: u32) -> Told<
     pick_place::<S, Brand>(past, place)
 }
 
-fn pick_place<S: Entrusted, E: Items<Move<S>>>(
-    _past: &Told<Move<S>>,
-    _place: u32,
-) -> Told<Move<S>>
+fn pick_place<S: Entrusted, E: Items<Move<S>>>(_past: &Told<Move<S>>, _place: u32) -> Told<Move<S>>
     ensures { result.items ≡ E.items }
 {
     Told::of::<E>()

@@ -11,7 +11,7 @@ ghost use Rattle.tm_pair.specs.declared.plain.PlainClient.{PlainClient};
 ghost use Rattle.tm_pair.specs.declared.plain.PlainTrustee.{PlainTrustee};
 ghost use Rattle.tm_pair.specs.Standing.{client_side_good, trustee_side_good};
 
-use crate::moves::{Move, again, answered, collected, published, seen};
+use crate::moves::{Move, again, answered, collected, is_bounded, published, seen};
 use crate::place::Place;
 use crate::placed::Placed;
 use crate::table::{Collected, Held, PairTable, Since};
@@ -75,14 +75,14 @@ impl<S: Placed> PairTable<S> for PlainTable<S> {
         ensures step { OnOk result (core_at self.new ≡ published_at (client_at side.old).place batch.requests batch.room (core_at self.old)) }
         ensures stays { OnErr result (core_at self.new ≡ core_at self.old) }
     {
-        let past = published(&self.past, side.place, &batch);
-        let place = &mut self.places[side.place as usize];
-        if !place.is_free() {
+        let place = side.place as usize;
+        if !self.places[place].is_free() {
             return Err(Held(batch));
         }
-        place.publish(batch);
-        side.past = again(&past);
-        self.past = past;
+        is_bounded(&batch);
+        self.past = published(&self.past, side.place, &batch);
+        side.past = again(&self.past);
+        self.places[place].publish(batch);
         Ok(())
     }
 
@@ -96,11 +96,11 @@ impl<S: Placed> PairTable<S> for PlainTable<S> {
         ensures trustee { (other : PlainTrustee S S.Op S.Reply S.Task) → IsTrusteeOf S.kind self.old other → IsTrusteeOf S.kind self.new other }
         ensures step { CollectsExactly (client_at side.old).place (core_at self.old) (core_at self.new) result }
     {
-        let place = &mut self.places[side.place as usize];
-        if place.is_free() {
+        let place = side.place as usize;
+        if self.places[place].is_free() {
             return Collected::Idle;
         }
-        let found = place.collect();
+        let found = self.places[place].collect();
         self.past = collected(&self.past, side.place);
         side.past = again(&self.past);
         found

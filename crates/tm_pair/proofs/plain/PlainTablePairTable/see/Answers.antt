@@ -30,10 +30,10 @@ returns g c =
     let step = tabling.core_next table.past.items c.seen-self.result.items (See at) c.seen-self.ensures in
     let again = ap (λ l. core_after l) c.again-side.ensures ∙ step in
     let next = tabling.next_table kind table of at new c.seen-self.result (see at core) step
-        (see_keeps_good kind opening core at lt of.good)
-        (tabling.see_shown table.places.items at was new core place is of.shows c.see-given.result c.see-given.ensures.gave c.see-given.ensures.words) in
+    (see_keeps_good kind opening core at lt of.good)
+    (tabling.see_shown table.places.items at was new core place is of.shows c.see-given.result c.see-given.ensures.gave c.see-given.ensures.words) in
     let sees = stepping.sees kind opening core at was.content new.content c.see-given.result shown.box c.see-given.ensures.gave
-        (λ b room asked. (batches_are_told kind opening core at b room (opens kind table of) of.good lt).0 asked) in
+    (λ b room asked. (batches_are_told kind opening core at b room (opens kind table of) of.good lt).0 asked) in
     record {
       sees =
           subst (λ old. MatchOption c.see-given.result (SeesNothing at old (trustee_of (core_after c.again-side.result.items)))
