@@ -1,3 +1,4 @@
 mod Nothing
+mod Opening
 mod Stepping
 mod Tabling

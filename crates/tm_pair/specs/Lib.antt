@@ -1,5 +1,6 @@
 pub mod Calls
 pub mod Moves
+pub mod Opened
 pub mod Places
 pub mod Plain
 pub mod Rounds

@@ -5,14 +5,17 @@
 #![tactic(auto)]
 
 mod moves;
+mod opened;
 mod place;
 mod placed;
 mod plain;
 mod round;
+mod small_batch;
 mod table;
 
 pub use moves::Move;
 pub use placed::Placed;
 pub use plain::{PlainClient, PlainTable, PlainTrustee};
 pub use round::{answer_nothing, ask_nothing};
+pub use small_batch::SmallBatch;
 pub use table::{Collected, Held, PairTable, Since};

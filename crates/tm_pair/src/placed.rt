@@ -4,11 +4,11 @@ ghost use Rattle.std.proofs.Common.{lit<};
 ghost use Rattle.tm_pair.specs.contracts.place.Place.{the_row as place_row};
 ghost use Rattle.tm_pair.specs.contracts.moves.Move.{the_row as move_row};
 
-use tm_batch::Small;
+use crate::small_batch::SmallBatch;
 use tm_seq::Counter;
 
 /// A kind of which a table in one thread can be made.
-pub trait Placed: Small {
+pub trait Placed: SmallBatch {
     /// A place of such a table has fewer than 2^63 bytes.
     ghost fits_place: { FitsInMemory (place_row Self.row Self.Op.row Self.Reply.row Self.Task.row Self.Entrusted) };
 
