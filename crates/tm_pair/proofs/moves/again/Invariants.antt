@@ -1,4 +1,3 @@
-use Rattle.std.proofs.Common.{◌∷◌, [], ◌++◌}
 use Rattle.tm_pair.proofs.moves.again.Given as goal
 
 abbrev pub ghosts-pick_past : goal.ghosts-pick_past

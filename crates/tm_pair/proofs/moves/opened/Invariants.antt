@@ -1,4 +1,4 @@
-use Rattle.std.proofs.Common.{◌∷◌, [], ◌++◌}
+use Rattle.std.proofs.Common.{◌∷◌, []}
 use Rattle.tm_pair.specs.declared.moves.Move.TheVariants.{Open}
 use Rattle.tm_pair.proofs.moves.opened.Given as goal
 

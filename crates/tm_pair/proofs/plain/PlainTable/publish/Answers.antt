@@ -1,16 +1,15 @@
-use Rattle.std.proofs.Common.{rules, ◌≡◌, ◌≢◌, ◌∷◌, [], ◌++◌, true, false, slice_index_or, refl, sym, ◌∙◌, ap, subst}
+use Rattle.std.proofs.Common.{rules, refl, sym, ◌∙◌, ap, subst}
 use Rattle.tm_model.specs.Slots.{slot_of, publish, published}
 use Rattle.tm_model.specs.Orderly.{IsOrderly}
 use Rattle.tm_core.proofs.Accounts.{publish_keeps_good}
 use Rattle.tm_pair.specs.Stands.{room_out, client_of, trustee_of}
 use Rattle.tm_pair.specs.Moves.{core_after}
 use Rattle.tm_pair.specs.Calls.{Publishes}
-use Rattle.tm_pair.specs.Plain.{opening_at, core_at, client_at}
-use Rattle.tm_pair.specs.declared.place.Content.TheVariants.{Empty as Free}
+use Rattle.tm_pair.specs.Plain.{opening_at, core_at}
 use Rattle.tm_pair.specs.declared.moves.Move.TheVariants.{Publish}
 use Rattle.tm_pair.proofs.Stepping as stepping
 use Rattle.tm_pair.proofs.Tabling as tabling
-use Rattle.tm_pair.proofs.plain.PlainTablePairTable.publish.Goals as goal
+use Rattle.tm_pair.proofs.plain.PlainTable.publish.Goals as goal
 
 pub publish-requires : goal.publish-requires
 publish-requires g c = (g.met.S.Placed.fits_place, search rules)

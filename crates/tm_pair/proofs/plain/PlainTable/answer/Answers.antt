@@ -1,4 +1,4 @@
-use Rattle.std.proofs.Common.{◌≡◌, ◌<◌, ◌∷◌, [], ◌++◌, true, false, slice_index_or, refl, sym, ◌∙◌, ap, subst}
+use Rattle.std.proofs.Common.{◌≡◌, ◌<◌, refl, sym, ◌∙◌, ap, subst}
 use Rattle.std.specs.Prelude.{IsSomeAnd}
 use Rattle.tm_model.specs.Slots.{slot_of}
 use Rattle.tm_model.specs.Answering.{answer_with}
@@ -10,7 +10,7 @@ use Rattle.tm_pair.specs.Plain.{opening_at, core_at, trustee_at}
 use Rattle.tm_pair.specs.Standing.{opens}
 use Rattle.tm_pair.proofs.Stepping as stepping
 use Rattle.tm_pair.proofs.Tabling as tabling
-use Rattle.tm_pair.proofs.plain.PlainTablePairTable.answer.Goals as goal
+use Rattle.tm_pair.proofs.plain.PlainTable.answer.Goals as goal
 
 pub index_mut-requires : goal.index_mut-requires
 index_mut-requires g c =

@@ -1,4 +1,4 @@
-use Rattle.std.proofs.Common.{◌∷◌, [], refl, sym, ◌∙◌, ap, subst}
+use Rattle.std.proofs.Common.{refl, sym, ◌∙◌, ap, subst}
 use Rattle.std.specs.Prelude.{MatchOption}
 use Rattle.tm_model.specs.Slots.{slot_of, see}
 use Rattle.tm_core.proofs.Accounts.{see_keeps_good}
@@ -6,12 +6,12 @@ use Rattle.tm_core.proofs.Promised.{batches_are_told}
 use Rattle.tm_pair.specs.Stands.{client_of, trustee_of}
 use Rattle.tm_pair.specs.Moves.{core_after}
 use Rattle.tm_pair.specs.Calls.{SeesNothing, Takes}
-use Rattle.tm_pair.specs.Plain.{opening_at, core_at, trustee_at}
+use Rattle.tm_pair.specs.Plain.{opening_at, core_at}
 use Rattle.tm_pair.specs.Standing.{opens}
 use Rattle.tm_pair.specs.declared.moves.Move.TheVariants.{See}
 use Rattle.tm_pair.proofs.Stepping as stepping
 use Rattle.tm_pair.proofs.Tabling as tabling
-use Rattle.tm_pair.proofs.plain.PlainTablePairTable.see.Goals as goal
+use Rattle.tm_pair.proofs.plain.PlainTable.see.Goals as goal
 
 pub returns : goal.returns
 returns g c =

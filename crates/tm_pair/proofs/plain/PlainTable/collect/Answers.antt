@@ -1,15 +1,15 @@
-use Rattle.std.proofs.Common.{◌≡◌, ◌≢◌, ◌∷◌, [], ◌++◌, true, false, slice_index_or, refl, sym, ◌∙◌, ap, subst}
+use Rattle.std.proofs.Common.{◌≡◌, ◌≢◌, true, false, refl, sym, ◌∙◌, ap, subst}
 use Rattle.tm_model.specs.Slots.{slot_of, collect}
 use Rattle.tm_core.proofs.Accounts.{collect_keeps_good}
 use Rattle.tm_pair.specs.Stands.{room_out, client_of, trustee_of}
 use Rattle.tm_pair.specs.Moves.{core_after}
 use Rattle.tm_pair.specs.Calls.{Collects}
-use Rattle.tm_pair.specs.Plain.{opening_at, core_at, client_at}
+use Rattle.tm_pair.specs.Plain.{opening_at, core_at}
 use Rattle.tm_pair.specs.declared.place.Content.TheVariants.{Empty as Free}
 use Rattle.tm_pair.specs.declared.moves.Move.TheVariants.{Collect}
 use Rattle.tm_pair.proofs.Stepping as stepping
 use Rattle.tm_pair.proofs.Tabling as tabling
-use Rattle.tm_pair.proofs.plain.PlainTablePairTable.collect.Goals as goal
+use Rattle.tm_pair.proofs.plain.PlainTable.collect.Goals as goal
 
 pub returns-then-is_free : goal.returns-then-is_free
 returns-then-is_free g c =
