@@ -5,7 +5,7 @@ use Rattle.std.specs.declared.option.Option.{Option}
 use Rattle.std.specs.declared.option.Option.TheVariants.{None, Some}
 use Rattle.std.proofs.Math.Seq.{take-nil}
 use Rattle.tm_seq.specs.Kind.{Kind}
-use Rattle.tm_batch.specs.BatchList.{BatchList}
+use Rattle.tm_batch.specs.declared.batch.Batch.{Batch}
 use Rattle.tm_batch.specs.declared.message.Answer.{Answer}
 use Rattle.tm_batch.specs.declared.message.AnswerBatch.{AnswerBatch}
 use Rattle.tm_model.specs.declared.entry.Entry.TheVariants.{Sent}
@@ -92,21 +92,21 @@ module _ {V O R T : Type 0} (kind : Kind V O R T) (opening : State V O R T) wher
       }
 
   pub nothing_taken :
-      (c : ℕ) (seen : Option (BatchList V O R T)) (old new : TrusteeView V O R T) → IsGoodTrustee kind opening old → c < place_count opening.setup
-      → MatchOption seen (SeesNothing c old new) (λ b. Takes kind opening c b.requests b.room old new) → IsSomeAnd seen (λ b. b.requests ≡ [])
+      (c : ℕ) (seen : Option (Batch V O R T)) (old new : TrusteeView V O R T) → IsGoodTrustee kind opening old → c < place_count opening.setup
+      → MatchOption seen (SeesNothing c old new) (λ b. Takes kind opening c b.requests.items b.room old new) → IsSomeAnd seen (λ b. b.requests.items ≡ [])
       → (room : ℕ) × (hand_of new c ≡ Some (record { requests = []; room = room }))
   nothing_taken c None old new good lt sees some = absurd some
   nothing_taken c (Some b) old new good lt takes none =
       let there : c < length old.hands = subst (λ n. c < n) (sym good.hands) lt in (
         b.room,
         ap (λ hands. slice_index_or hands c None) takes.hands
-            ∙ get_or-set_same old.hands c (Some (record { requests = b.requests; room = b.room })) None there
+            ∙ get_or-set_same old.hands c (Some (record { requests = b.requests.items; room = b.room })) None there
             ∙ ap (λ r. Some (record { requests = r; room = b.room })) none,
       )
 
   pub seeing_keeps_log :
-      (c : ℕ) (seen : Option (BatchList V O R T)) (old new : TrusteeView V O R T)
-      → MatchOption seen (SeesNothing c old new) (λ b. Takes kind opening c b.requests b.room old new) → new.log ≡ old.log
+      (c : ℕ) (seen : Option (Batch V O R T)) (old new : TrusteeView V O R T)
+      → MatchOption seen (SeesNothing c old new) (λ b. Takes kind opening c b.requests.items b.room old new) → new.log ≡ old.log
   seeing_keeps_log c None old new sees = sees.log
   seeing_keeps_log c (Some b) old new takes = takes.log
 

@@ -8,7 +8,7 @@ use Rattle.std.proofs.Math.Seq.{map-set_same}
 use Rattle.std.proofs.lemmas.List.{map-set}
 use Rattle.std.proofs.lemmas.Bool.{cases_eq}
 use Rattle.tm_seq.specs.Kind.{Kind}
-use Rattle.tm_batch.specs.BatchList.{BatchList}
+use Rattle.tm_batch.specs.declared.batch.Batch.{Batch}
 use Rattle.tm_batch.specs.declared.message.Request.{Request}
 use Rattle.tm_batch.specs.declared.message.AnswerBatch.{AnswerBatch}
 use Rattle.tm_model.specs.declared.entry.Entry.{Entry}
@@ -190,51 +190,51 @@ module _ {V O R T : Type 0} where
       (ap (λ f. looked f (slot_of core c).trustee) is ∙ ap (λ l. looked found l) (sym (get_or-map (λ (s : FullSlot V O R T). s.trustee) core.slots c no_slot)))
 
   sees_by :
-      (kind : Kind V O R T) (opening : State V O R T) (core : FullCore V O R T) (c : ℕ) (content new : Content V O R T) (given : Option (BatchList V O R T))
+      (kind : Kind V O R T) (opening : State V O R T) (core : FullCore V O R T) (c : ℕ) (content new : Content V O R T) (given : Option (Batch V O R T))
       (box : FullBox V O R T) → (slot_of core c).box ≡ box → ShowsBox content box → Gave content new given
       → ((b : List (Request V O R T)) (room : ℕ) → (slot_of core c).box ≡ Asked b room → IsTold kind opening core.log c b)
       → MatchOption given (SeesNothing c (trustee_of core) (trustee_of (see c core)))
-      (λ b. Takes kind opening c b.requests b.room (trustee_of core) (trustee_of (see c core)))
+      (λ b. Takes kind opening c b.requests.items b.room (trustee_of core) (trustee_of (see c core)))
   sees_by kind opening core c Free new given Empty at shows gave told =
-      subst (λ g. MatchOption g (SeesNothing c (trustee_of core) (trustee_of (see c core))) (λ b. Takes kind opening c b.requests b.room (trustee_of core) (trustee_of (see c core)))) (sym gave.1)
+      subst (λ g. MatchOption g (SeesNothing c (trustee_of core) (trustee_of (see c core))) (λ b. Takes kind opening c b.requests.items b.room (trustee_of core) (trustee_of (see c core)))) (sym gave.1)
       (record {
         log = refl;
         hands = same_hands core c (seen_slot (slot_of core c)) (ap (λ (x : FullBox V O R T). hand_in (taken x)) at ∙ ap (λ (x : FullBox V O R T). hand_in x) (sym at));
         looks = looks_now core c false (ap (λ (x : FullBox V O R T). is_asked x) at);
       })
   sees_by kind opening core c InHand new given (Taken b room) at shows gave told =
-      subst (λ g. MatchOption g (SeesNothing c (trustee_of core) (trustee_of (see c core))) (λ b. Takes kind opening c b.requests b.room (trustee_of core) (trustee_of (see c core)))) (sym gave.1)
+      subst (λ g. MatchOption g (SeesNothing c (trustee_of core) (trustee_of (see c core))) (λ b. Takes kind opening c b.requests.items b.room (trustee_of core) (trustee_of (see c core)))) (sym gave.1)
       (record {
         log = refl;
         hands = same_hands core c (seen_slot (slot_of core c)) (ap (λ (x : FullBox V O R T). hand_in (taken x)) at ∙ ap (λ (x : FullBox V O R T). hand_in x) (sym at));
         looks = looks_now core c false (ap (λ (x : FullBox V O R T). is_asked x) at);
       })
   sees_by kind opening core c (Back answers) new given (Answered a upto room) at shows gave told =
-      subst (λ g. MatchOption g (SeesNothing c (trustee_of core) (trustee_of (see c core))) (λ b. Takes kind opening c b.requests b.room (trustee_of core) (trustee_of (see c core)))) (sym gave.1)
+      subst (λ g. MatchOption g (SeesNothing c (trustee_of core) (trustee_of (see c core))) (λ b. Takes kind opening c b.requests.items b.room (trustee_of core) (trustee_of (see c core)))) (sym gave.1)
       (record {
         log = refl;
         hands = same_hands core c (seen_slot (slot_of core c)) (ap (λ (x : FullBox V O R T). hand_in (taken x)) at ∙ ap (λ (x : FullBox V O R T). hand_in x) (sym at));
         looks = looks_now core c false (ap (λ (x : FullBox V O R T). is_asked x) at);
       })
   sees_by kind opening core c (Out batch) new given (Asked b room) at shows gave told =
-      let is : (slot_of core c).box ≡ Asked batch.requests batch.room =
-      at ∙ ap (λ q. Asked q room) (sym shows.0) ∙ ap (λ r. Asked batch.requests r) (sym shows.1) in
-      subst (λ g. MatchOption g (SeesNothing c (trustee_of core) (trustee_of (see c core))) (λ b. Takes kind opening c b.requests b.room (trustee_of core) (trustee_of (see c core)))) (sym gave.1)
+      let is : (slot_of core c).box ≡ Asked batch.requests.items batch.room =
+      at ∙ ap (λ q. Asked q room) (sym shows.0) ∙ ap (λ r. Asked batch.requests.items r) (sym shows.1) in
+      subst (λ g. MatchOption g (SeesNothing c (trustee_of core) (trustee_of (see c core))) (λ b. Takes kind opening c b.requests.items b.room (trustee_of core) (trustee_of (see c core)))) (sym gave.1)
       (record {
         log = refl;
         hands = map-set (λ (s : FullSlot V O R T). hand_in s.box) core.slots c (seen_slot (slot_of core c))
             ∙ ap (λ (h : Option (Hand V O R T)). slice_set (trustee_of core).hands c h) (ap (λ (x : FullBox V O R T). hand_in (taken x)) is);
         looks = looks_now core c true (ap (λ (x : FullBox V O R T). is_asked x) is);
-        told = told batch.requests batch.room is;
+        told = told batch.requests.items batch.room is;
       })
   sees_by kind opening core c _ new given _ at shows gave told = absurd shows
 
   pub sees :
-      (kind : Kind V O R T) (opening : State V O R T) (core : FullCore V O R T) (c : ℕ) (content new : Content V O R T) (given : Option (BatchList V O R T))
+      (kind : Kind V O R T) (opening : State V O R T) (core : FullCore V O R T) (c : ℕ) (content new : Content V O R T) (given : Option (Batch V O R T))
       → ShowsBox content (slot_of core c).box → Gave content new given
       → ((b : List (Request V O R T)) (room : ℕ) → (slot_of core c).box ≡ Asked b room → IsTold kind opening core.log c b)
       → MatchOption given (SeesNothing c (trustee_of core) (trustee_of (see c core)))
-      (λ b. Takes kind opening c b.requests b.room (trustee_of core) (trustee_of (see c core)))
+      (λ b. Takes kind opening c b.requests.items b.room (trustee_of core) (trustee_of (see c core)))
   sees kind opening core c content new given shows gave told = sees_by kind opening core c content new given (slot_of core c).box refl shows gave told
 
   -- answer

@@ -7,7 +7,7 @@ use Rattle.std.specs.declared.option.Option.TheVariants.{None, Some}
 use Rattle.std.proofs.lemmas.Bool.{cases_eq}
 use Rattle.tm_base.specs.declared.told.Told.{Told}
 use Rattle.tm_seq.specs.Kind.{Kind}
-use Rattle.tm_batch.specs.BatchList.{BatchList}
+use Rattle.tm_batch.specs.declared.batch.Batch.{Batch}
 use Rattle.tm_batch.specs.declared.message.Request.{Request}
 use Rattle.tm_batch.specs.declared.message.AnswerBatch.{AnswerBatch}
 use Rattle.tm_model.specs.declared.entry.Entry.{Entry}
@@ -77,14 +77,14 @@ module _ {V O R T : Type 0} where
     slot_shown = shown.slots i was lt is
 
     pub publish_shown :
-        (b : BatchList V O R T) → new.request_word ≡ not was.request_word → new.response_word ≡ was.response_word → new.content ≡ Out b
-        → ShowsCore (slice_set places i new) (publish i b.requests b.room core)
+        (b : Batch V O R T) → new.request_word ≡ not was.request_word → new.response_word ≡ was.response_word → new.content ≡ Out b
+        → ShowsCore (slice_set places i new) (publish i b.requests.items b.room core)
     publish_shown b request response content =
-        shows_set places i new core core.log (published b.requests b.room (slot_of core i)) lt shown
+        shows_set places i new core core.log (published b.requests.items b.room (slot_of core i)) lt shown
         (record { request_word = request ∙ ap not slot_shown.request_word; response_word = response ∙ slot_shown.response_word; box = rw content (refl, refl) })
 
     gave_shows :
-        (content now : Content V O R T) (given : Option (BatchList V O R T)) (box : FullBox V O R T) → ShowsBox content box → Gave content now given
+        (content now : Content V O R T) (given : Option (Batch V O R T)) (box : FullBox V O R T) → ShowsBox content box → Gave content now given
         → ShowsBox now (taken box)
     gave_shows Free now given Empty shows gave = rw gave.0 tt
     gave_shows (Out b) now given (Asked requests room) shows gave = rw gave.0 tt
@@ -93,7 +93,7 @@ module _ {V O R T : Type 0} where
     gave_shows _ now given _ shows gave = absurd shows
 
     pub see_shown :
-        (given : Option (BatchList V O R T)) → Gave was.content new.content given → KeepsWords was new → ShowsCore (slice_set places i new) (see i core)
+        (given : Option (Batch V O R T)) → Gave was.content new.content given → KeepsWords was new → ShowsCore (slice_set places i new) (see i core)
     see_shown given gave words =
         shows_set places i new core core.log (seen_slot (slot_of core i)) lt shown
         (record {
@@ -134,11 +134,11 @@ module _ {V O R T : Type 0} where
 
   -- what was given was asked
   pub gave_asked :
-      (content now : Content V O R T) (given : Option (BatchList V O R T)) (box : FullBox V O R T) → ShowsBox content box → Gave content now given
-      → IfSome given (λ b. box ≡ Asked b.requests b.room)
+      (content now : Content V O R T) (given : Option (Batch V O R T)) (box : FullBox V O R T) → ShowsBox content box → Gave content now given
+      → IfSome given (λ b. box ≡ Asked b.requests.items b.room)
   gave_asked Free now given Empty shows gave = rw gave.1 tt
   gave_asked (Out b) now given (Asked requests room) shows gave =
-      rw gave.1 (ap (λ q. Asked q room) (sym shows.0) ∙ ap (λ r. Asked b.requests r) (sym shows.1))
+      rw gave.1 (ap (λ q. Asked q room) (sym shows.0) ∙ ap (λ r. Asked b.requests.items r) (sym shows.1))
   gave_asked InHand now given (Taken requests room) shows gave = rw gave.1 tt
   gave_asked (Back a) now given (Answered answers upto room) shows gave = rw gave.1 tt
   gave_asked _ now given _ shows gave = absurd shows

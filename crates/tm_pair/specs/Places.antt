@@ -2,7 +2,7 @@
 use Rattle.std.specs.Prelude.{◌≡◌, false}
 use Rattle.std.specs.declared.option.Option.{Option}
 use Rattle.std.specs.declared.option.Option.TheVariants.{None, Some}
-use Rattle.tm_batch.specs.BatchList.{BatchList}
+use Rattle.tm_batch.specs.declared.batch.Batch.{Batch}
 use Rattle.tm_pair.specs.declared.table.Collected.{Collected}
 use Rattle.tm_pair.specs.declared.table.Collected.TheVariants.{Answers, Pending, Idle}
 use Rattle.tm_pair.specs.declared.place.Content.{Content}
@@ -22,7 +22,7 @@ module _ {V O R T : Type 0} where
     pub response_word : new.response_word ≡ old.response_word
 
   -- a batch that was asked is given and then taken; else nothing is given, and what stands there stays
-  abbrev pub Gave : Content V O R T → Content V O R T → Option (BatchList V O R T) → Type 0
+  abbrev pub Gave : Content V O R T → Content V O R T → Option (Batch V O R T) → Type 0
   Gave (Asked b) new given = (new ≡ Taken) × (given ≡ Some b)
   Gave Empty new given = (new ≡ Empty) × (given ≡ None)
   Gave Taken new given = (new ≡ Taken) × (given ≡ None)

@@ -10,7 +10,7 @@ module _ {V O R T : Type 0} where
   -- what stands in a place is what stands in a box
   abbrev pub ShowsBox : Content V O R T → FullBox V O R T → Type 0
   ShowsBox Free Empty = Unit {0}
-  ShowsBox (Out batch) (Asked b room) = (batch.requests ≡ b) × (batch.room ≡ room)
+  ShowsBox (Out batch) (Asked b room) = (batch.requests.items ≡ b) × (batch.room ≡ room)
   ShowsBox InHand (Taken b room) = Unit {0}
   ShowsBox (Back answers) (Answered a upto room) = answers ≡ a
   ShowsBox _ _ = ⊥

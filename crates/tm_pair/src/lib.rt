@@ -4,7 +4,6 @@
 //! many.
 #![tactic(auto)]
 
-mod laws;
 mod moves;
 mod opened;
 mod place;
@@ -14,7 +13,6 @@ mod round;
 mod small_batch;
 mod table;
 
-pub use laws::{clients_are_good, trustees_are_good};
 pub use moves::Move;
 pub use placed::Placed;
 pub use plain::{PlainClient, PlainTable, PlainTrustee};

@@ -27,7 +27,7 @@ pub enum Move<S: Entrusted> {
 
 /// A batch has at most 16 requests, and room for at most 16 gifts.
 pub(crate) fn is_bounded<S: Entrusted>(batch: &Batch<S>)
-    ensures requests { length batch.now.requests ≤ 16 }
+    ensures requests { length batch.now.requests.items ≤ 16 }
     ensures room { batch.now.room ≤ 16 }
 {
     let _ = (batch.len(), batch.room());

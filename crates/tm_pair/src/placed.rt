@@ -10,10 +10,10 @@ use tm_seq::Counter;
 /// A kind of which a table in one thread can be made.
 pub trait Placed: SmallBatch {
     /// A place of such a table has fewer than 2^63 bytes.
-    ghost fits_place: { FitsInMemory (place_row Self.row Self.Op.row Self.Reply.row Self.Task.row Self.Entrusted) };
+    ghost fits_place: { FitsInMemory (place_row Self.row Self.Op.row Self.Reply.row Self.Task.row) };
 
     /// So has a call at it, of which contracts speak.
-    ghost fits_move: { FitsInMemory (move_row Self.row Self.Op.row Self.Reply.row Self.Task.row Self.Entrusted) };
+    ghost fits_move: { FitsInMemory (move_row Self.row Self.Op.row Self.Reply.row Self.Task.row) };
 }
 
 impl Placed for Counter {

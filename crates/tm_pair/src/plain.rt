@@ -9,12 +9,13 @@ ghost use Rattle.tm_pair.specs.Calls.{MaySend, Publishes, Collects, SeesNothing,
 ghost use Rattle.tm_pair.specs.Plain.{opening_at, core_at, client_at, trustee_at, IsClientOf, IsTrusteeOf, CollectsExactly};
 ghost use Rattle.tm_pair.specs.declared.plain.PlainClient.{PlainClient};
 ghost use Rattle.tm_pair.specs.declared.plain.PlainTrustee.{PlainTrustee};
+ghost use Rattle.tm_pair.specs.Standing.{client_side_good, trustee_side_good};
 
 use crate::moves::{Move, again, answered, collected, is_bounded, published, seen};
 use crate::place::Place;
 use crate::placed::Placed;
 use crate::small_batch::SmallBatch;
-use crate::table::{Collected, Held, Since};
+use crate::table::{Collected, Held, PairTable, Since};
 use tm_base::Told;
 use tm_batch::{AnswerBatch, Batch, Config, First};
 use tm_seq::Entrusted;
@@ -45,24 +46,34 @@ pub struct PlainTrustee<S: Entrusted> {
     pub(crate) past: Told<Move<S>>,
 }
 
-/// The calls of a table, as [`PairTable`](crate::PairTable) has them, and exactly the steps of the
-/// core that it stands for.
-impl<S: Placed> PlainTable<S> {
-    /// Sends a batch to the trustee, or hands it back where the last one was not collected.
-    ///
+impl<S: Placed> PairTable<S> for PlainTable<S> {
+    type ClientSide = PlainClient<S>;
+
+    type TrusteeSide = PlainTrustee<S>;
+
+    ghost opening = { λ table. opening_at table };
+
+    ghost client_view = { λ side. client_at side };
+
+    ghost trustee_view = { λ side. trustee_at side };
+
+    ghost HasClient = { λ table side. IsClientOf S.kind table side };
+
+    ghost HasTrustee = { λ table side. IsTrusteeOf S.kind table side };
+
     /// The words, boxes, floors and looks are exactly those of the step, or as before with `Held`.
-    pub fn publish(&mut self, side: &mut PlainClient<S>, batch: Batch<S>) -> Result<(), Held<S>>
+    fn publish(&mut self, side: &mut PlainClient<S>, batch: Batch<S>) -> Result<(), Held<S>>
         requires mine { IsClientOf S.kind self.old side.old }
-        requires orderly { MaySend (opening_at self.old) (client_at side.old) batch.requests }
+        requires orderly { MaySend (opening_at self.old) (client_at side.old) batch.requests.items }
         ensures free { IsOk result ↔ ((client_at side.old).out ≡ None) }
-        ensures ok { OnOk result (Publishes batch.requests batch.room (client_at side.old) (client_at side.new)) }
+        ensures ok { OnOk result (Publishes batch.requests.items batch.room (client_at side.old) (client_at side.new)) }
         ensures err { OnErr result (client_at side.new ≡ client_at side.old) }
         ensures back { IfErr result (λ held. held.0 ≡ batch) }
         ensures opening { opening_at self.new ≡ opening_at self.old }
         ensures mine { IsClientOf S.kind self.new side.new }
         ensures clients { (other : PlainClient S S.Op S.Reply S.Task) → (client_at other).place ≢ (client_at side.old).place → IsClientOf S.kind self.old other → IsClientOf S.kind self.new other }
         ensures trustee { (other : PlainTrustee S S.Op S.Reply S.Task) → IsTrusteeOf S.kind self.old other → IsTrusteeOf S.kind self.new other }
-        ensures step { OnOk result (core_at self.new ≡ published_at (client_at side.old).place batch.requests batch.room (core_at self.old)) }
+        ensures step { OnOk result (core_at self.new ≡ published_at (client_at side.old).place batch.requests.items batch.room (core_at self.old)) }
         ensures stays { OnErr result (core_at self.new ≡ core_at self.old) }
     {
         let place = side.place as usize;
@@ -76,10 +87,8 @@ impl<S: Placed> PlainTable<S> {
         Ok(())
     }
 
-    /// Looks for the answers to the batch that is out, and takes them. It does not look where nothing is out.
-    ///
     /// The words, boxes, floors and looks are exactly those of the step, or as before with `Idle`.
-    pub fn collect(&mut self, side: &mut PlainClient<S>) -> Collected<S>
+    fn collect(&mut self, side: &mut PlainClient<S>) -> Collected<S>
         requires mine { IsClientOf S.kind self.old side.old }
         ensures collects { Collects (client_at side.old) (client_at side.new) result }
         ensures opening { opening_at self.new ≡ opening_at self.old }
@@ -98,19 +107,17 @@ impl<S: Placed> PlainTable<S> {
         found
     }
 
-    /// Looks for a batch of a place of which none is in hand, and takes it in hand.
-    ///
     /// The words, boxes, floors and looks are exactly those of the step.
-    pub fn see(&mut self, side: &mut PlainTrustee<S>, client: u32) -> Option<Batch<S>>
+    fn see(&mut self, side: &mut PlainTrustee<S>, client: u32) -> Option<Batch<S>>
         requires mine { IsTrusteeOf S.kind self.old side.old }
         requires in_range { client < place_count (opening_at self.old).setup }
         requires free { hand_of (trustee_at side.old) client ≡ None }
-        ensures sees { MatchOption result (SeesNothing client (trustee_at side.old) (trustee_at side.new)) (λ b. Takes S.kind (opening_at self.old) client b.requests b.room (trustee_at side.old) (trustee_at side.new)) }
+        ensures sees { MatchOption result (SeesNothing client (trustee_at side.old) (trustee_at side.new)) (λ b. Takes S.kind (opening_at self.old) client b.requests.items b.room (trustee_at side.old) (trustee_at side.new)) }
         ensures opening { opening_at self.new ≡ opening_at self.old }
         ensures mine { IsTrusteeOf S.kind self.new side.new }
         ensures clients { (other : PlainClient S S.Op S.Reply S.Task) → IsClientOf S.kind self.old other → IsClientOf S.kind self.new other }
         ensures step { core_at self.new ≡ seen_at client (core_at self.old) }
-        ensures asked { IfSome result (λ b. (slot_of (core_at self.old) client).box ≡ Asked b.requests b.room) }
+        ensures asked { IfSome result (λ b. (slot_of (core_at self.old) client).box ≡ Asked b.requests.items b.room) }
     {
         let given = self.places[client as usize].see();
         self.past = seen(&self.past, client);
@@ -118,10 +125,8 @@ impl<S: Placed> PlainTable<S> {
         given
     }
 
-    /// Answers the batch of a place that is in hand. The trustee's log grows by the resumes that the call picks, and then by the entries of the batch.
-    ///
     /// The words, boxes, floors and looks are exactly those of the step.
-    pub fn answer<E: Since<S, S::Op, S::Reply, S::Task>>(
+    fn answer<E: Since<S, S::Op, S::Reply, S::Task>>(
         &mut self,
         side: &mut PlainTrustee<S>,
         client: u32,
@@ -139,4 +144,8 @@ impl<S: Placed> PlainTable<S> {
         side.past = again(&self.past);
         self.places[client as usize].answer(answers);
     }
+
+    ghost client_is_good = { λ table side mine. client_side_good S.kind table side mine };
+
+    ghost trustee_is_good = { λ table side mine. trustee_side_good S.kind table side mine };
 }

@@ -31,7 +31,7 @@ pub fn ask_nothing<S: Entrusted, P: PairTable<S>>(
 
 /// Whether there is a batch and it has no request.
 fn is_nothing<S: Entrusted>(seen: &Option<Batch<S>>) -> bool
-    ensures { IsTrue result ↔ IsSomeAnd seen.now (λ b. b.requests ≡ []) }
+    ensures { IsTrue result ↔ IsSomeAnd seen.now (λ b. b.requests.items ≡ []) }
 {
     match seen {
         Some(batch) => batch.is_empty(),
@@ -77,8 +77,8 @@ pub fn answer_nothing<S: Small, P: PairTable<S>>(
     requires free { hand_of (P.trustee_view side.old) client ≡ None }
     requires waits { NothingWaits (state_after S.kind (P.opening table.old) (P.trustee_view side.old).log) client }
     requires front { front ≡ min (length (P.trustee_view side.old).log + 1) (2 ^ 64 - 1) }
-    ensures answers { IsSomeAnd result (λ b. b.requests ≡ []) → AnswersNothing client (P.trustee_view side.old) (P.trustee_view side.new) }
-    ensures log { ¬ IsSomeAnd result (λ b. b.requests ≡ []) → (P.trustee_view side.new).log ≡ (P.trustee_view side.old).log }
+    ensures answers { IsSomeAnd result (λ b. b.requests.items ≡ []) → AnswersNothing client (P.trustee_view side.old) (P.trustee_view side.new) }
+    ensures log { ¬ IsSomeAnd result (λ b. b.requests.items ≡ []) → (P.trustee_view side.new).log ≡ (P.trustee_view side.old).log }
     ensures mine { P.HasTrustee table.new side.new }
     ensures opening { P.opening table.new ≡ P.opening table.old }
     ensures clients { (other : P.ClientSide) → P.HasClient table.old other → P.HasClient table.new other }

@@ -9,7 +9,7 @@ use tm_seq::Counter;
 /// A kind whose batches, of requests and of answers, fit in memory.
 pub trait SmallBatch: Small {
     /// A batch of requests has fewer than 2^63 bytes.
-    ghost fits_batch: { FitsInMemory (batch_row Self.row Self.Op.row Self.Reply.row Self.Task.row Self.Entrusted) };
+    ghost fits_batch: { FitsInMemory (batch_row Self.row Self.Op.row Self.Reply.row Self.Task.row) };
 }
 
 impl SmallBatch for Counter {

@@ -70,9 +70,9 @@ pub trait PairTable<S: Entrusted> {
     /// Sends a batch to the trustee, or hands it back where the last one was not collected.
     fn publish(&mut self, side: &mut Self::ClientSide, batch: Batch<S>) -> Result<(), Held<S>>
         requires mine { HasClient self.old side.old }
-        requires orderly { MaySend (opening self.old) (client_view side.old) batch.requests }
+        requires orderly { MaySend (opening self.old) (client_view side.old) batch.requests.items }
         ensures free { IsOk result ↔ ((client_view side.old).out ≡ None) }
-        ensures ok { OnOk result (Publishes batch.requests batch.room (client_view side.old) (client_view side.new)) }
+        ensures ok { OnOk result (Publishes batch.requests.items batch.room (client_view side.old) (client_view side.new)) }
         ensures err { OnErr result (client_view side.new ≡ client_view side.old) }
         ensures back { IfErr result (λ held. held.0 ≡ batch) }
         ensures opening { opening self.new ≡ opening self.old }
@@ -95,7 +95,7 @@ pub trait PairTable<S: Entrusted> {
         requires mine { HasTrustee self.old side.old }
         requires in_range { client < place_count (opening self.old).setup }
         requires free { hand_of (trustee_view side.old) client ≡ None }
-        ensures sees { MatchOption result (SeesNothing client (trustee_view side.old) (trustee_view side.new)) (λ b. Takes S.kind (opening self.old) client b.requests b.room (trustee_view side.old) (trustee_view side.new)) }
+        ensures sees { MatchOption result (SeesNothing client (trustee_view side.old) (trustee_view side.new)) (λ b. Takes S.kind (opening self.old) client b.requests.items b.room (trustee_view side.old) (trustee_view side.new)) }
         ensures opening { opening self.new ≡ opening self.old }
         ensures mine { HasTrustee self.new side.new }
         ensures clients { (other : Self.ClientSide) → HasClient self.old other → HasClient self.new other };

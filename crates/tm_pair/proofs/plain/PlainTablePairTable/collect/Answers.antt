@@ -9,7 +9,7 @@ use Rattle.tm_pair.specs.declared.place.Content.TheVariants.{Empty as Free}
 use Rattle.tm_pair.specs.declared.moves.Move.TheVariants.{Collect}
 use Rattle.tm_pair.proofs.Stepping as stepping
 use Rattle.tm_pair.proofs.Tabling as tabling
-use Rattle.tm_pair.proofs.plain.PlainTable.collect.Goals as goal
+use Rattle.tm_pair.proofs.plain.PlainTablePairTable.collect.Goals as goal
 
 pub returns-then-is_free : goal.returns-then-is_free
 returns-then-is_free g c =

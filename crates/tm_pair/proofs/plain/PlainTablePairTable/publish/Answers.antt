@@ -9,7 +9,7 @@ use Rattle.tm_pair.specs.Plain.{opening_at, core_at}
 use Rattle.tm_pair.specs.declared.moves.Move.TheVariants.{Publish}
 use Rattle.tm_pair.proofs.Stepping as stepping
 use Rattle.tm_pair.proofs.Tabling as tabling
-use Rattle.tm_pair.proofs.plain.PlainTable.publish.Goals as goal
+use Rattle.tm_pair.proofs.plain.PlainTablePairTable.publish.Goals as goal
 
 pub publish-requires : goal.publish-requires
 publish-requires g c = (g.met.S.Placed.fits_place, search rules)
@@ -67,18 +67,18 @@ returns g c =
     let none = ap (λ v. v.out) mine.view ∙ ap (λ x. room_out x) empty in
     let step = tabling.core_next table.past.items c.published-self.result.items (Publish at b) c.published-self.ensures in
     let again = ap (λ l. core_after l) c.again-side.ensures ∙ step in
-    let next = tabling.next_table kind table of at new c.published-self.result (publish at b.requests b.room core) step
-    (publish_keeps_good kind opening core at b.requests b.room
+    let next = tabling.next_table kind table of at new c.published-self.result (publish at b.requests.items b.room core) step
+    (publish_keeps_good kind opening core at b.requests.items b.room
     (record { in_range = lt; is_empty = empty; most = c.is_bounded.ensures.requests; most_gifts = c.is_bounded.ensures.room })
-    (subst (λ v. IsOrderly opening v.place v.sent v.got b.requests) mine.view (c.requires.orderly none)) of.good)
+    (subst (λ v. IsOrderly opening v.place v.sent v.got b.requests.items) mine.view (c.requires.orderly none)) of.good)
     (tabling.publish_shown table.places.items at was new core place c.index_mut.ensures.value of.shows b c.publish.ensures.request
     c.publish.ensures.response c.publish.ensures.content) in
     record {
       free = (λ e. none, λ e. refl);
       ok =
-          subst (λ old. Publishes b.requests b.room old (client_of at (slot_of (core_after c.again-side.result.items) at))) (sym mine.view)
-          (subst (λ k. Publishes b.requests b.room (client_of at (slot_of core at)) (client_of at (slot_of k at))) (sym again)
-          (stepping.publishes core at b.requests b.room lt));
+          subst (λ old. Publishes b.requests.items b.room old (client_of at (slot_of (core_after c.again-side.result.items) at))) (sym mine.view)
+          (subst (λ k. Publishes b.requests.items b.room (client_of at (slot_of core at)) (client_of at (slot_of k at))) (sym again)
+          (stepping.publishes core at b.requests.items b.room lt));
       err = tt;
       back = tt;
       opening = refl;
@@ -86,12 +86,12 @@ returns g c =
       clients = λ other ne has. record {
         of_table = next;
         in_range = has.in_range;
-        view = has.view ∙ sym (ap (λ s. client_of other.place s) (stepping.other_slot core at other.place (published b.requests b.room (slot_of core at)) ne))
+        view = has.view ∙ sym (ap (λ s. client_of other.place s) (stepping.other_slot core at other.place (published b.requests.items b.room (slot_of core at)) ne))
             ∙ ap (λ k. client_of other.place (slot_of k other.place)) (sym step);
       };
       trustee = λ other has. record {
         of_table = next;
-        view = has.view ∙ sym (stepping.publish_trustee core at b.requests b.room empty) ∙ ap (λ k. trustee_of k) (sym step);
+        view = has.view ∙ sym (stepping.publish_trustee core at b.requests.items b.room empty) ∙ ap (λ k. trustee_of k) (sym step);
       };
       step = step;
       stays = tt;

@@ -11,7 +11,7 @@ use Rattle.tm_pair.specs.Standing.{opens}
 use Rattle.tm_pair.specs.declared.moves.Move.TheVariants.{See}
 use Rattle.tm_pair.proofs.Stepping as stepping
 use Rattle.tm_pair.proofs.Tabling as tabling
-use Rattle.tm_pair.proofs.plain.PlainTable.see.Goals as goal
+use Rattle.tm_pair.proofs.plain.PlainTablePairTable.see.Goals as goal
 
 pub returns : goal.returns
 returns g c =
@@ -37,9 +37,9 @@ returns g c =
     record {
       sees =
           subst (λ old. MatchOption c.see-given.result (SeesNothing at old (trustee_of (core_after c.again-side.result.items)))
-          (λ b. Takes kind opening at b.requests b.room old (trustee_of (core_after c.again-side.result.items)))) (sym c.requires.mine.view)
+          (λ b. Takes kind opening at b.requests.items b.room old (trustee_of (core_after c.again-side.result.items)))) (sym c.requires.mine.view)
           (subst (λ k. MatchOption c.see-given.result (SeesNothing at (trustee_of core) (trustee_of k))
-          (λ b. Takes kind opening at b.requests b.room (trustee_of core) (trustee_of k))) (sym again) sees);
+          (λ b. Takes kind opening at b.requests.items b.room (trustee_of core) (trustee_of k))) (sym again) sees);
       opening = refl;
       mine = record { of_table = next; view = ap (λ l. trustee_of (core_after l)) c.again-side.ensures };
       clients = λ other has. record {

@@ -10,7 +10,7 @@ use Rattle.tm_pair.specs.Plain.{opening_at, core_at, trustee_at}
 use Rattle.tm_pair.specs.Standing.{opens}
 use Rattle.tm_pair.proofs.Stepping as stepping
 use Rattle.tm_pair.proofs.Tabling as tabling
-use Rattle.tm_pair.proofs.plain.PlainTable.answer.Goals as goal
+use Rattle.tm_pair.proofs.plain.PlainTablePairTable.answer.Goals as goal
 
 pub index_mut-requires : goal.index_mut-requires
 index_mut-requires g c =
