@@ -6,43 +6,68 @@ use arrayvec::ArrayVec;
 use std::marker::Model;
 use tm_seq::Entrusted;
 
-/// At most 16 requests in order, with their room: how many gifts the sender can take with the
-/// answers, at most 16.
+/// How many gifts can come with answers, at most 16. Contracts see the number.
 #[derive(Drop)]
-pub struct Batch<S: Entrusted> {
-    requests: ArrayVec<Request<S>, 16>,
-    room: u32,
+pub struct Room {
+    gifts: u32,
 }
 
-impl<S: Entrusted> Model for Batch<S> {
-    ghost use Rattle.std.specs.Prelude.{◌≤◌};
-    ghost use Rattle.tm_batch.specs.BatchList.{BatchList};
+impl Model for Room {
+    ghost use Rattle.std.specs.Prelude.{ℕ, ◌≤◌};
 
-    ghost Value = { BatchList S S.Op S.Reply S.Task };
+    ghost Value = { ℕ };
 
-    ghost view = { λ b. record { requests = b.requests.items; room = b.room } };
+    ghost view = { λ r. r.gifts };
 
-    ghost invariant = { λ b. b.room ≤ 16 };
+    ghost invariant = { λ r. r.gifts ≤ 16 };
+}
+
+impl Room {
+    /// Room for so many gifts.
+    pub fn new(gifts: u32) -> Room
+        requires { gifts ≤ 16 }
+        ensures { result ≡ gifts }
+    {
+        Room { gifts }
+    }
+
+    /// For how many.
+    pub fn gifts(&self) -> u32
+        ensures value { result ≡ self.now }
+        ensures most { result ≤ 16 }
+    {
+        self.gifts
+    }
+}
+
+/// At most 16 requests in order, with their room: how many gifts the sender can take with the
+/// answers.
+#[derive(Drop)]
+pub struct Batch<S: Entrusted> {
+    /// The requests.
+    pub requests: ArrayVec<Request<S>, 16>,
+    /// The room.
+    pub room: Room,
 }
 
 impl<S: Entrusted> Batch<S> {
     /// An empty batch.
     pub fn new(room: u32) -> Batch<S>
         requires { room ≤ 16 }
-        ensures requests { result.requests ≡ [] }
+        ensures requests { result.requests.items ≡ [] }
         ensures room { result.room ≡ room }
     {
         Batch {
             requests: ArrayVec::new(),
-            room,
+            room: Room::new(room),
         }
     }
 
     /// Appends a request, or hands it back where 16 are there.
     pub fn push(&mut self, request: Request<S>) -> Result<(), Request<S>>
-        ensures free { IsOk result ↔ (length self.old.requests < 16) }
-        ensures ok { OnOk result (self.new.requests ≡ self.old.requests ++ request ∷ []) }
-        ensures full { OnErr result (length self.old.requests ≡ 16) }
+        ensures free { IsOk result ↔ (length self.old.requests.items < 16) }
+        ensures ok { OnOk result (self.new.requests.items ≡ self.old.requests.items ++ request ∷ []) }
+        ensures full { OnErr result (length self.old.requests.items ≡ 16) }
         ensures err { OnErr result (self.new ≡ self.old) }
         ensures back { IfErr result (λ r. r ≡ request) }
         ensures room { self.new.room ≡ self.old.room }
@@ -56,7 +81,7 @@ impl<S: Entrusted> Batch<S> {
 
     /// How many requests there are.
     pub fn len(&self) -> usize
-        ensures value { result ≡ length self.now.requests }
+        ensures value { result ≡ length self.now.requests.items }
         ensures most { result ≤ 16 }
     {
         self.requests.len()
@@ -64,7 +89,7 @@ impl<S: Entrusted> Batch<S> {
 
     /// Whether there is no request.
     pub fn is_empty(&self) -> bool
-        ensures { IsTrue result ↔ (self.now.requests ≡ []) }
+        ensures { IsTrue result ↔ (self.now.requests.items ≡ []) }
     {
         self.requests.is_empty()
     }
@@ -74,12 +99,12 @@ impl<S: Entrusted> Batch<S> {
         ensures value { result ≡ self.now.room }
         ensures most { result ≤ 16 }
     {
-        self.room
+        self.room.gifts()
     }
 
     /// Takes the first request out, if there is one.
     pub fn take_first(&mut self) -> Option<Request<S>>
-        ensures first { MatchOption result ((self.old.requests ≡ []) × (self.new ≡ self.old)) (λ r. self.old.requests ≡ r ∷ self.new.requests) }
+        ensures first { MatchOption result ((self.old.requests.items ≡ []) × (self.new ≡ self.old)) (λ r. self.old.requests.items ≡ r ∷ self.new.requests.items) }
         ensures room { self.new.room ≡ self.old.room }
     {
         if self.requests.is_empty() {

@@ -9,7 +9,7 @@ mod config;
 mod message;
 mod small;
 
-pub use batch::Batch;
+pub use batch::{Batch, Room};
 pub use config::{Config, First, Holders};
 pub use message::{Answer, AnswerBatch, Completion, Name, Refusal, Request};
 pub use small::Small;

@@ -16,6 +16,7 @@ use Rattle.tm_model.specs.Batches.{leaving, batches_from, batches}
 use Rattle.tm_model.specs.Entries.{entries_by, AreResumes, batch_entries, added}
 use Rattle.tm_model.specs.Answering.{MayGrow}
 use Rattle.tm_model.specs.Laws.{LegalLogsJoin, GrowingAdds}
+use Rattle.tm_model.specs.Leaving.{BatchesJoin}
 use Rattle.tm_core.proofs.Lists.{same_last}
 
 module _ {V O R T : Type 0} where
@@ -184,3 +185,6 @@ module _ {V O R T : Type 0} where
             (state_after kind (state_after kind opening log) resumes) b answers room ne)
             ∙ append-nil _;
       }
+
+  pub batches_join : (kind : Kind V O R T) → BatchesJoin kind
+  batches_join kind = λ opening log es c. batches-append kind c 0 [] opening log es ∙ ap (λ n. batches kind opening c log ++ batches_from kind c n (waiting_after c [] log) (state_after kind opening log) es) (omega arith)

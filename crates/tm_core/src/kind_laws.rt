@@ -2,6 +2,7 @@
 //!
 //! Nothing here runs: each function states a law.
 ghost use Rattle.tm_model.specs.Laws.{RequestsAreNumbered, LegalLogsJoin, BatchesHaveAllAnswers, GrowingAdds, FirstIsGood, PublishKeepsGood, SeeKeepsGood, AnswerKeepsGood, CollectKeepsGood};
+ghost use Rattle.tm_model.specs.Leaving.{BatchesJoin};
 
 use tm_seq::Entrusted;
 
@@ -18,6 +19,12 @@ pub fn requests_are_numbered<S: Entrusted>()
 /// The answers of the batches that left for a place, and those that have not left, are the answers to its requests.
 pub fn batches_have_all_answers<S: Entrusted>()
     ensures { BatchesHaveAllAnswers S.kind }
+{}
+
+/// What leaves for a place by a log that is joined of two is what leaves by the first, and then what
+/// leaves by the second behind it.
+pub fn batches_join<S: Entrusted>()
+    ensures { BatchesJoin S.kind }
 {}
 
 /// The first core is good.

@@ -10,8 +10,8 @@ mod machine;
 mod step;
 
 pub use kind_laws::{
-    answer_keeps_good, batches_have_all_answers, collect_keeps_good, first_is_good, growing_adds,
-    legal_logs_join, publish_keeps_good, requests_are_numbered, see_keeps_good,
+    answer_keeps_good, batches_have_all_answers, batches_join, collect_keeps_good, first_is_good,
+    growing_adds, legal_logs_join, publish_keeps_good, requests_are_numbered, see_keeps_good,
 };
 pub use laws::{
     SlotLog, answer_keeps_slots, collect_keeps_slots, first_slots_are_good, publish_keeps_slots,

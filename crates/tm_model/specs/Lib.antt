@@ -16,3 +16,4 @@ pub mod Orderly
 pub mod Good
 pub mod Answering
 pub mod Laws
+pub mod Leaving

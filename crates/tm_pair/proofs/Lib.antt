@@ -1,0 +1,4 @@
+mod Nothing
+mod Opening
+mod Stepping
+mod Tabling

@@ -1,0 +1,91 @@
+//! One round of an empty batch through any table.
+ghost use Rattle.std.specs.Prelude.{◌≡◌, ℕ, ◌+◌, ◌-◌, ◌^◌, ◌<◌, ◌↔◌, min, List, [], length, IsTrue, IsOk, OnOk, OnErr, IsSomeAnd};
+ghost use Rattle.std.specs.declared.option.Option.TheVariants.{None, Some};
+ghost use Rattle.tm_model.specs.State.{State, place_count};
+ghost use Rattle.tm_model.specs.Serve.{state_after};
+ghost use Rattle.tm_pair.specs.Views.{ClientView, Hand, TrusteeView, hand_of};
+ghost use Rattle.tm_pair.specs.Calls.{Publishes};
+ghost use Rattle.tm_pair.specs.Rounds.{NothingWaits, AnswersNothing};
+
+use crate::table::{Held, PairTable};
+use std::marker::Brand;
+use tm_batch::{AnswerBatch, Batch, Small};
+use tm_core::{batches_have_all_answers, batches_join, legal_logs_join, states_are_sound};
+use tm_seq::Entrusted;
+
+/// Publishes a batch with no request and no room for gifts.
+pub fn ask_nothing<S: Entrusted, P: PairTable<S>>(
+    table: &mut P,
+    side: &mut P::ClientSide,
+) -> Result<(), Held<S>>
+    requires mine { P.HasClient table.old side.old }
+    ensures free { IsOk result ↔ ((P.client_view side.old).out ≡ None) }
+    ensures ok { OnOk result (Publishes [] 0 (P.client_view side.old) (P.client_view side.new)) }
+    ensures err { OnErr result (P.client_view side.new ≡ P.client_view side.old) }
+    ensures mine { P.HasClient table.new side.new }
+    ensures opening { P.opening table.new ≡ P.opening table.old }
+    ensures trustee { (other : P.TrusteeSide) → P.HasTrustee table.old other → P.HasTrustee table.new other }
+{
+    table.publish(side, Batch::new(0))
+}
+
+/// Whether there is a batch and it has no request.
+fn is_nothing<S: Entrusted>(seen: &Option<Batch<S>>) -> bool
+    ensures { IsTrue result ↔ IsSomeAnd seen.now (λ b. b.requests.items ≡ []) }
+{
+    match seen {
+        Some(batch) => batch.is_empty(),
+        None => false,
+    }
+}
+
+/// Answers a batch in hand that has no request, where nothing waits for its place.
+fn answer_empty<S: Small, P: PairTable<S>>(
+    table: &mut P,
+    side: &mut P::TrusteeSide,
+    client: u32,
+    front: u64,
+)
+    requires mine { P.HasTrustee table.old side.old }
+    requires in_range { client < place_count (P.opening table.old).setup }
+    requires hand { (room : ℕ) × (hand_of (P.trustee_view side.old) client ≡ Some (record { requests = []; room = room })) }
+    requires waits { NothingWaits (state_after S.kind (P.opening table.old) (P.trustee_view side.old).log) client }
+    requires front { front ≡ min (length (P.trustee_view side.old).log + 1) (2 ^ 64 - 1) }
+    ensures answers { AnswersNothing client (P.trustee_view side.old) (P.trustee_view side.new) }
+    ensures mine { P.HasTrustee table.new side.new }
+    ensures opening { P.opening table.new ≡ P.opening table.old }
+    ensures clients { (other : P.ClientSide) → P.HasClient table.old other → P.HasClient table.new other }
+{
+    legal_logs_join::<S>();
+    states_are_sound::<S>();
+    batches_join::<S>();
+    batches_have_all_answers::<S>();
+    table.answer::<Brand>(side, client, AnswerBatch::new(front));
+}
+
+/// Looks for a batch of a place for which nothing waits, and answers it if it has no request; one
+/// that has some stays in hand. `front` is the length of the log with its answer. The batch that it
+/// found, if there was one.
+pub fn answer_nothing<S: Small, P: PairTable<S>>(
+    table: &mut P,
+    side: &mut P::TrusteeSide,
+    client: u32,
+    front: u64,
+) -> Option<Batch<S>>
+    requires mine { P.HasTrustee table.old side.old }
+    requires in_range { client < place_count (P.opening table.old).setup }
+    requires free { hand_of (P.trustee_view side.old) client ≡ None }
+    requires waits { NothingWaits (state_after S.kind (P.opening table.old) (P.trustee_view side.old).log) client }
+    requires front { front ≡ min (length (P.trustee_view side.old).log + 1) (2 ^ 64 - 1) }
+    ensures answers { IsSomeAnd result (λ b. b.requests.items ≡ []) → AnswersNothing client (P.trustee_view side.old) (P.trustee_view side.new) }
+    ensures log { ¬ IsSomeAnd result (λ b. b.requests.items ≡ []) → (P.trustee_view side.new).log ≡ (P.trustee_view side.old).log }
+    ensures mine { P.HasTrustee table.new side.new }
+    ensures opening { P.opening table.new ≡ P.opening table.old }
+    ensures clients { (other : P.ClientSide) → P.HasClient table.old other → P.HasClient table.new other }
+{
+    let seen = table.see(side, client);
+    if is_nothing(&seen) {
+        answer_empty(table, side, client, front);
+    }
+    seen
+}
