@@ -19,6 +19,7 @@ use Rattle.tm_model.specs.Answering.{MayGrow, answer_with}
 use Rattle.tm_pair.specs.Views.{Hand, TrusteeView, hand_of}
 use Rattle.tm_pair.specs.Stands.{room_out, hand_in, trustee_of}
 use Rattle.tm_pair.specs.Standing.{is_in_hand, hand_at, hand_in_range}
+use Rattle.tm_pair.specs.Calls.{OnLook}
 use Rattle.tm_pair.specs.Moves.{answer_taken, after_move, after_moves, core_after}
 use Rattle.tm_pair.specs.Places.{KeepsWords, Gave, Found}
 use Rattle.tm_pair.specs.Shown.{ShowsBox, ShowsSlot, ShowsCore}
@@ -181,6 +182,15 @@ module _ {V O R T : Type 0} where
   collects_exactly c (Out b) now found core after ne finds e = rw finds.1 e
   collects_exactly c InHand now found core after ne finds e = rw finds.1 e
   collects_exactly c (Back a) now found core after ne finds e = rw finds.1 e
+
+  -- a look at a slot that is not free is a look
+  pub looked_on :
+      (content now : Content V O R T) (found : Collected V O R T) (idle looked : Type 0) → content ≢ Free → Found content now found → looked
+      → OnLook found idle looked
+  looked_on Free now found idle looked ne finds e = absurd (ne refl)
+  looked_on (Out b) now found idle looked ne finds e = rw finds.1 e
+  looked_on InHand now found idle looked ne finds e = rw finds.1 e
+  looked_on (Back a) now found idle looked ne finds e = rw finds.1 e
 
   -- the batch that the trustee may answer
   pub may_be_answered :

@@ -72,6 +72,12 @@ module _ {V O R T : Type 0} where
   Collects old new Pending = IsPending old new
   Collects old new (Answers a) = Gets a old new
 
+  -- the first of two where a side did not look, the second where it did
+  abbrev pub OnLook : Collected V O R T → Type 0 → Type 0 → Type 0
+  OnLook Idle idle looked = idle
+  OnLook Pending idle looked = looked
+  OnLook (Answers a) idle looked = looked
+
   -- the trustee looked once at place c
   abbrev pub LooksAt : ℕ → Bool → TrusteeView V O R T → TrusteeView V O R T → Type 0
   LooksAt c found old new = new.looks ≡ slice_set old.looks c (looked found (looks_at old c))

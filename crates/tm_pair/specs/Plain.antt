@@ -7,10 +7,11 @@ use Rattle.tm_model.specs.Slots.{slot_of, collect}
 use Rattle.tm_model.specs.Good.{FullCore, IsGood}
 use Rattle.tm_pair.specs.Views.{ClientView, TrusteeView}
 use Rattle.tm_pair.specs.Stands.{client_of, trustee_of}
-use Rattle.tm_pair.specs.Moves.{core_after}
+use Rattle.tm_pair.specs.Moves.{after_move, core_after}
 use Rattle.tm_pair.specs.Shown.{ShowsCore}
 use Rattle.tm_pair.specs.declared.table.Collected.{Collected}
 use Rattle.tm_pair.specs.declared.table.Collected.TheVariants.{Answers, Pending, Idle}
+use Rattle.tm_pair.specs.declared.moves.Move.{Move}
 use Rattle.tm_pair.specs.declared.plain.PlainTable.{PlainTable}
 use Rattle.tm_pair.specs.declared.plain.PlainClient.{PlainClient}
 use Rattle.tm_pair.specs.declared.plain.PlainTrustee.{PlainTrustee}
@@ -55,3 +56,7 @@ module _ {V O R T : Type 0} where
   CollectsExactly c old new Idle = new ≡ old
   CollectsExactly c old new Pending = new ≡ collect c old
   CollectsExactly c old new (Answers a) = new ≡ collect c old
+
+  -- a table did one call: its core is what that leaves
+  abbrev pub HasMoved : Move V O R T → PlainTable V O R T → PlainTable V O R T → Type 0
+  HasMoved move old new = core_at new ≡ after_move move (core_at old)

@@ -5,8 +5,10 @@ ghost use Rattle.tm_model.specs.State.{State, place_count};
 ghost use Rattle.tm_model.specs.Slots.{Asked, slot_of, publish as published_at, see as seen_at};
 ghost use Rattle.tm_model.specs.Answering.{answer_with};
 ghost use Rattle.tm_pair.specs.Views.{ClientView, TrusteeView, hand_of};
-ghost use Rattle.tm_pair.specs.Calls.{MaySend, Publishes, Collects, SeesNothing, Takes, MayAnswer, HasAnswered};
-ghost use Rattle.tm_pair.specs.Plain.{opening_at, core_at, client_at, trustee_at, IsClientOf, IsTrusteeOf, CollectsExactly};
+ghost use Rattle.tm_pair.specs.Calls.{MaySend, Publishes, Collects, OnLook, SeesNothing, Takes, MayAnswer, HasAnswered};
+ghost use Rattle.tm_pair.specs.Moves.{answer_of};
+ghost use Rattle.tm_pair.specs.declared.moves.Move.TheVariants.{Publish, See, Collect};
+ghost use Rattle.tm_pair.specs.Plain.{opening_at, core_at, client_at, trustee_at, IsClientOf, IsTrusteeOf, HasMoved, CollectsExactly};
 ghost use Rattle.tm_pair.specs.declared.plain.PlainClient.{PlainClient};
 ghost use Rattle.tm_pair.specs.declared.plain.PlainTrustee.{PlainTrustee};
 ghost use Rattle.tm_pair.specs.Standing.{client_side_good, trustee_side_good};
@@ -61,6 +63,8 @@ impl<S: Placed> PairTable<S> for PlainTable<S> {
 
     ghost HasTrustee = { λ table side. IsTrusteeOf S.kind table side };
 
+    ghost Moved = { λ move old new. HasMoved move old new };
+
     /// The words, boxes, floors and looks are exactly those of the step, or as before with `Held`.
     fn publish(&mut self, side: &mut PlainClient<S>, batch: Batch<S>) -> Result<(), Held<S>>
         requires mine { IsClientOf S.kind self.old side.old }
@@ -69,12 +73,13 @@ impl<S: Placed> PairTable<S> for PlainTable<S> {
         ensures ok { OnOk result (Publishes batch.requests.items batch.room (client_at side.old) (client_at side.new)) }
         ensures err { OnErr result (client_at side.new ≡ client_at side.old) }
         ensures back { IfErr result (λ held. held.0 ≡ batch) }
+        ensures moved { OnOk result (HasMoved (Publish (client_at side.old).place batch) self.old self.new) }
+        ensures stays { OnErr result (self.new ≡ self.old) }
         ensures opening { opening_at self.new ≡ opening_at self.old }
         ensures mine { IsClientOf S.kind self.new side.new }
         ensures clients { (other : PlainClient S S.Op S.Reply S.Task) → (client_at other).place ≢ (client_at side.old).place → IsClientOf S.kind self.old other → IsClientOf S.kind self.new other }
         ensures trustee { (other : PlainTrustee S S.Op S.Reply S.Task) → IsTrusteeOf S.kind self.old other → IsTrusteeOf S.kind self.new other }
         ensures step { OnOk result (core_at self.new ≡ published_at (client_at side.old).place batch.requests.items batch.room (core_at self.old)) }
-        ensures stays { OnErr result (core_at self.new ≡ core_at self.old) }
     {
         let place = side.place as usize;
         if !self.places[place].is_free() {
@@ -91,6 +96,7 @@ impl<S: Placed> PairTable<S> for PlainTable<S> {
     fn collect(&mut self, side: &mut PlainClient<S>) -> Collected<S>
         requires mine { IsClientOf S.kind self.old side.old }
         ensures collects { Collects (client_at side.old) (client_at side.new) result }
+        ensures moved { OnLook result (self.new ≡ self.old) (HasMoved (Collect (client_at side.old).place) self.old self.new) }
         ensures opening { opening_at self.new ≡ opening_at self.old }
         ensures mine { IsClientOf S.kind self.new side.new }
         ensures clients { (other : PlainClient S S.Op S.Reply S.Task) → (client_at other).place ≢ (client_at side.old).place → IsClientOf S.kind self.old other → IsClientOf S.kind self.new other }
@@ -113,6 +119,7 @@ impl<S: Placed> PairTable<S> for PlainTable<S> {
         requires in_range { client < place_count (opening_at self.old).setup }
         requires free { hand_of (trustee_at side.old) client ≡ None }
         ensures sees { MatchOption result (SeesNothing client (trustee_at side.old) (trustee_at side.new)) (λ b. Takes S.kind (opening_at self.old) client b.requests.items b.room (trustee_at side.old) (trustee_at side.new)) }
+        ensures moved { HasMoved (See client) self.old self.new }
         ensures opening { opening_at self.new ≡ opening_at self.old }
         ensures mine { IsTrusteeOf S.kind self.new side.new }
         ensures clients { (other : PlainClient S S.Op S.Reply S.Task) → IsClientOf S.kind self.old other → IsClientOf S.kind self.new other }
@@ -135,6 +142,7 @@ impl<S: Placed> PairTable<S> for PlainTable<S> {
         requires mine { IsTrusteeOf S.kind self.old side.old }
         requires may { MayAnswer S.kind (opening_at self.old) client E.resumes answers (trustee_at side.old) }
         ensures answers { HasAnswered client E.resumes answers (trustee_at side.old) (trustee_at side.new) }
+        ensures moved { HasMoved (answer_of client E.resumes answers) self.old self.new }
         ensures opening { opening_at self.new ≡ opening_at self.old }
         ensures mine { IsTrusteeOf S.kind self.new side.new }
         ensures clients { (other : PlainClient S S.Op S.Reply S.Task) → IsClientOf S.kind self.old other → IsClientOf S.kind self.new other }

@@ -5,7 +5,10 @@ ghost use Rattle.tm_model.specs.State.{State, place_count};
 ghost use Rattle.tm_model.specs.declared.entry.Entry.{Entry};
 ghost use Rattle.tm_pair.specs.Views.{ClientView, TrusteeView, hand_of};
 ghost use Rattle.tm_pair.specs.Sides.{IsGoodClient, IsGoodTrustee};
-ghost use Rattle.tm_pair.specs.Calls.{MaySend, Publishes, Collects, SeesNothing, Takes, MayAnswer, HasAnswered};
+ghost use Rattle.tm_pair.specs.Calls.{MaySend, Publishes, Collects, OnLook, SeesNothing, Takes, MayAnswer, HasAnswered};
+ghost use Rattle.tm_pair.specs.Moves.{answer_of};
+ghost use Rattle.tm_pair.specs.declared.moves.Move.{Move};
+ghost use Rattle.tm_pair.specs.declared.moves.Move.TheVariants.{Publish, See, Collect};
 
 use std::marker::Brand;
 use tm_batch::{AnswerBatch, Batch};
@@ -47,10 +50,10 @@ impl<V, O, R, T> Since<V, O, R, T> for Brand {
 /// never waits and never allocates.
 pub trait PairTable<S: Entrusted> {
     /// A client's side.
-    type ClientSide;
+    type ClientSide: Drop;
 
     /// The trustee's side.
-    type TrusteeSide;
+    type TrusteeSide: Drop;
 
     /// The state in which the trustee opened, from which all logs are legal.
     ghost opening: { Self → State S S.Op S.Reply S.Task };
@@ -67,6 +70,10 @@ pub trait PairTable<S: Entrusted> {
     /// A trustee's side is that of this table.
     ghost HasTrustee: { Self → Self.TrusteeSide → Type 0 };
 
+    /// What a call did to the table itself, as far as a kind of table tells: one whose sides are all in
+    /// one thread tells its words, its boxes and its log; one that others change meanwhile, nothing.
+    ghost Moved: { Move S S.Op S.Reply S.Task → Self → Self → Type 0 };
+
     /// Sends a batch to the trustee, or hands it back where the last one was not collected.
     fn publish(&mut self, side: &mut Self::ClientSide, batch: Batch<S>) -> Result<(), Held<S>>
         requires mine { HasClient self.old side.old }
@@ -75,6 +82,8 @@ pub trait PairTable<S: Entrusted> {
         ensures ok { OnOk result (Publishes batch.requests.items batch.room (client_view side.old) (client_view side.new)) }
         ensures err { OnErr result (client_view side.new ≡ client_view side.old) }
         ensures back { IfErr result (λ held. held.0 ≡ batch) }
+        ensures moved { OnOk result (Moved (Publish (client_view side.old).place batch) self.old self.new) }
+        ensures stays { OnErr result (self.new ≡ self.old) }
         ensures opening { opening self.new ≡ opening self.old }
         ensures mine { HasClient self.new side.new }
         ensures clients { (other : Self.ClientSide) → (client_view other).place ≢ (client_view side.old).place → HasClient self.old other → HasClient self.new other }
@@ -85,6 +94,7 @@ pub trait PairTable<S: Entrusted> {
     fn collect(&mut self, side: &mut Self::ClientSide) -> Collected<S>
         requires mine { HasClient self.old side.old }
         ensures collects { Collects (client_view side.old) (client_view side.new) result }
+        ensures moved { OnLook result (self.new ≡ self.old) (Moved (Collect (client_view side.old).place) self.old self.new) }
         ensures opening { opening self.new ≡ opening self.old }
         ensures mine { HasClient self.new side.new }
         ensures clients { (other : Self.ClientSide) → (client_view other).place ≢ (client_view side.old).place → HasClient self.old other → HasClient self.new other }
@@ -96,6 +106,7 @@ pub trait PairTable<S: Entrusted> {
         requires in_range { client < place_count (opening self.old).setup }
         requires free { hand_of (trustee_view side.old) client ≡ None }
         ensures sees { MatchOption result (SeesNothing client (trustee_view side.old) (trustee_view side.new)) (λ b. Takes S.kind (opening self.old) client b.requests.items b.room (trustee_view side.old) (trustee_view side.new)) }
+        ensures moved { Moved (See client) self.old self.new }
         ensures opening { opening self.new ≡ opening self.old }
         ensures mine { HasTrustee self.new side.new }
         ensures clients { (other : Self.ClientSide) → HasClient self.old other → HasClient self.new other };
@@ -111,6 +122,7 @@ pub trait PairTable<S: Entrusted> {
         requires mine { HasTrustee self.old side.old }
         requires may { MayAnswer S.kind (opening self.old) client E.resumes answers (trustee_view side.old) }
         ensures answers { HasAnswered client E.resumes answers (trustee_view side.old) (trustee_view side.new) }
+        ensures moved { Moved (answer_of client E.resumes answers) self.old self.new }
         ensures opening { opening self.new ≡ opening self.old }
         ensures mine { HasTrustee self.new side.new }
         ensures clients { (other : Self.ClientSide) → HasClient self.old other → HasClient self.new other };

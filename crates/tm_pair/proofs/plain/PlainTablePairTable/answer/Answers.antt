@@ -65,6 +65,7 @@ returns g c =
       answers =
           subst (λ old. HasAnswered at resumes a old (trustee_of (core_after c.again-side.result.items))) (sym c.requires.mine.view)
           (subst (λ k. HasAnswered at resumes a (trustee_of core) (trustee_of k)) (sym again) (stepping.answers core at hand resumes a there));
+      moved = tabling.core_next table.past.items c.answered-self.result.items (answer_of at resumes a) c.answered-self.ensures;
       opening = refl;
       mine = record { of_table = next; view = ap (λ l. trustee_of (core_after l)) c.again-side.ensures };
       clients = λ other has. record {

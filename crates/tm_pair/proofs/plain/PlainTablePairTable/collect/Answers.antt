@@ -28,6 +28,7 @@ returns-then-is_free g c =
     let empty = tabling.free_is_empty first.content box looks.box (c.is_free.ensures.0 c.if-is_free.true) in
     record {
       collects = record { out = ap (λ v. v.out) mine.view ∙ ap (λ b. room_out b) empty; kept = refl };
+      moved = refl;
       opening = refl;
       mine = mine;
       clients = λ other ne has. has;
@@ -67,6 +68,8 @@ returns g c =
       collects =
           subst (λ old. Collects old (client_of at (slot_of (core_after c.again-side.result.items) at)) c.collect-found.result) (sym mine.view)
           (subst (λ k. Collects (client_of at (slot_of core at)) (client_of at (slot_of k at)) c.collect-found.result) (sym again) collects);
+      moved = tabling.looked_on was.content new.content c.collect-found.result _
+          (core_after c.collected-self.result.items ≡ collect at core) busy c.collect-found.ensures.found step;
       opening = refl;
       mine = record { of_table = next; in_range = mine.in_range; view = ap (λ l. client_of at (slot_of (core_after l) at)) c.again-side.ensures };
       clients = λ other ne has. record {

@@ -38,12 +38,13 @@ returns-then-not-is_free g c =
       ok = tt;
       err = refl;
       back = refl;
+      moved = tt;
+      stays = refl;
       opening = refl;
       mine = mine;
       clients = λ other ne has. has;
       trustee = λ other has. has;
       step = tt;
-      stays = refl;
     }
 
 pub returns : goal.returns
@@ -81,6 +82,8 @@ returns g c =
           (stepping.publishes core at b.requests.items b.room lt));
       err = tt;
       back = tt;
+      moved = step;
+      stays = tt;
       opening = refl;
       mine = record { of_table = next; in_range = mine.in_range; view = ap (λ l. client_of at (slot_of (core_after l) at)) c.again-side.ensures };
       clients = λ other ne has. record {
@@ -94,5 +97,4 @@ returns g c =
         view = has.view ∙ sym (stepping.publish_trustee core at b.requests.items b.room empty) ∙ ap (λ k. trustee_of k) (sym step);
       };
       step = step;
-      stays = tt;
     }

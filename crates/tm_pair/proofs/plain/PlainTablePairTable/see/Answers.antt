@@ -40,6 +40,7 @@ returns g c =
           (λ b. Takes kind opening at b.requests.items b.room old (trustee_of (core_after c.again-side.result.items)))) (sym c.requires.mine.view)
           (subst (λ k. MatchOption c.see-given.result (SeesNothing at (trustee_of core) (trustee_of k))
           (λ b. Takes kind opening at b.requests.items b.room (trustee_of core) (trustee_of k))) (sym again) sees);
+      moved = step;
       opening = refl;
       mine = record { of_table = next; view = ap (λ l. trustee_of (core_after l)) c.again-side.ensures };
       clients = λ other has. record {
