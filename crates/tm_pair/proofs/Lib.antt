@@ -1,4 +1,5 @@
 mod Nothing
 mod Opening
+mod Returning
 mod Stepping
 mod Tabling

@@ -1,9 +1,16 @@
 -- What one round of a batch through a table finds.
-use Rattle.std.specs.Prelude.{◌≡◌, ℕ, ◌≤◌, [], ◌∷◌, ◌++◌}
-use Rattle.std.specs.declared.option.Option.TheVariants.{None}
+use Rattle.std.specs.Prelude.{◌≡◌, ℕ, ◌≤◌, true, false, List, [], ◌∷◌, ◌++◌}
+use Rattle.std.specs.declared.option.Option.TheVariants.{None, Some}
+use Rattle.tm_batch.specs.declared.message.AnswerBatch.{AnswerBatch}
+use Rattle.tm_model.specs.declared.entry.Entry.{Entry}
 use Rattle.tm_model.specs.declared.entry.Entry.TheVariants.{Sent}
 use Rattle.tm_model.specs.State.{State, place_of}
-use Rattle.tm_pair.specs.Views.{TrusteeView, hand_of}
+use Rattle.tm_model.specs.Slots.{looked}
+use Rattle.tm_model.specs.Ran.{ran}
+use Rattle.tm_model.specs.Holds.{launches_in, ended_in}
+use Rattle.tm_pair.specs.Views.{ClientView, TrusteeView, hand_of}
+use Rattle.tm_pair.specs.declared.table.Collected.{Collected}
+use Rattle.tm_pair.specs.declared.table.Collected.TheVariants.{Answers, Pending, Idle}
 
 module _ {V O R T : Type 0} where
   -- no gift and no completion waits for place c
@@ -15,3 +22,32 @@ module _ {V O R T : Type 0} where
   pub record AnswersNothing (c : ℕ) (old new : TrusteeView V O R T) : Type 0 where
     pub log : (room : ℕ) × (room ≤ 16) × (new.log ≡ old.log ++ Sent c room ∷ [])
     pub hand : hand_of new c ≡ None
+
+  -- a side asked nothing, and has no answer yet
+  pub record AwaitsNothing (old new : ClientView V O R T) : Type 0 where
+    pub place : new.place ≡ old.place
+    pub sent : new.sent ≡ old.sent
+    pub got : new.got ≡ old.got
+    pub seen : new.seen ≡ old.seen
+    pub out : new.out ≡ Some 0
+    pub looks : new.looks ≡ looked false old.looks
+
+  -- a side asked nothing, and a is what it got
+  pub record GetsNothing (a : AnswerBatch V O R T) (old new : ClientView V O R T) : Type 0 where
+    -- nothing came with it, and no completion where all that the side launched had ended
+    pub answers : a.answers.items ≡ []
+    pub gifts : a.gifts.items ≡ []
+    pub completions : launches_in old.sent ≤ ended_in old.got → a.completions.items ≡ []
+    pub place : new.place ≡ old.place
+    pub sent : new.sent ≡ old.sent
+    pub got : new.got ≡ old.got ++ a ∷ []
+    -- the log that it has seen grew by entries of which none is a request of it, and then this batch left
+    pub seen : (others : List (Entry V O R T)) × (ran old.place others ≡ []) × (new.seen ≡ old.seen ++ others ++ Sent old.place 0 ∷ [])
+    pub out : new.out ≡ None
+    pub looks : new.looks ≡ looked true old.looks
+
+  -- what a side found that had nothing out and asked nothing
+  abbrev pub FindsNothing : ClientView V O R T → ClientView V O R T → Collected V O R T → Type 0
+  FindsNothing old new Idle = ⊥
+  FindsNothing old new Pending = AwaitsNothing old new
+  FindsNothing old new (Answers a) = GetsNothing a old new

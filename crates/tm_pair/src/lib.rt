@@ -16,6 +16,6 @@ mod table;
 pub use moves::Move;
 pub use placed::Placed;
 pub use plain::{PlainClient, PlainTable, PlainTrustee};
-pub use round::{answer_nothing, ask_nothing};
+pub use round::{answer_nothing, ask_nothing, once_round};
 pub use small_batch::SmallBatch;
 pub use table::{Collected, Held, PairTable, Since};

@@ -1,13 +1,14 @@
 //! One round of an empty batch through any table.
-ghost use Rattle.std.specs.Prelude.{◌≡◌, ℕ, ◌+◌, ◌-◌, ◌^◌, ◌<◌, ◌↔◌, min, List, [], length, IsTrue, IsOk, OnOk, OnErr, IsSomeAnd};
+ghost use Rattle.std.specs.Prelude.{◌≡◌, ℕ, ◌+◌, ◌-◌, ◌^◌, ◌<◌, ◌↔◌, ◌⊎◌, min, List, [], length, IsTrue, IsOk, OnOk, OnErr, IsSomeAnd};
 ghost use Rattle.std.specs.declared.option.Option.TheVariants.{None, Some};
 ghost use Rattle.tm_model.specs.State.{State, place_count};
 ghost use Rattle.tm_model.specs.Serve.{state_after};
 ghost use Rattle.tm_pair.specs.Views.{ClientView, Hand, TrusteeView, hand_of};
 ghost use Rattle.tm_pair.specs.Calls.{Publishes};
-ghost use Rattle.tm_pair.specs.Rounds.{NothingWaits, AnswersNothing};
+ghost use Rattle.tm_pair.specs.Rounds.{NothingWaits, AnswersNothing, FindsNothing};
 
-use crate::table::{Held, PairTable};
+use crate::small_batch::SmallBatch;
+use crate::table::{Collected, Held, PairTable};
 use std::marker::Brand;
 use tm_batch::{AnswerBatch, Batch, Small};
 use tm_core::{batches_have_all_answers, batches_join, legal_logs_join, states_are_sound};
@@ -88,4 +89,65 @@ pub fn answer_nothing<S: Small, P: PairTable<S>>(
         answer_empty(table, side, client, front);
     }
     seen
+}
+
+/// Asks nothing with a side that has nothing out.
+fn ask_free<S: SmallBatch, P: PairTable<S>>(table: &mut P, side: &mut P::ClientSide)
+    requires mine { P.HasClient table.old side.old }
+    requires out { (P.client_view side.old).out ≡ None }
+    ensures asks { Publishes [] 0 (P.client_view side.old) (P.client_view side.new) }
+    ensures mine { P.HasClient table.new side.new }
+    ensures opening { P.opening table.new ≡ P.opening table.old }
+    ensures trustee { (other : P.TrusteeSide) → P.HasTrustee table.old other → P.HasTrustee table.new other }
+{
+    let _ = ask_nothing(table, side);
+}
+
+/// Answers as [`answer_nothing`], and lets the batch go.
+fn answer_free<S: SmallBatch, P: PairTable<S>>(
+    table: &mut P,
+    side: &mut P::TrusteeSide,
+    client: u32,
+    front: u64,
+)
+    requires mine { P.HasTrustee table.old side.old }
+    requires in_range { client < place_count (P.opening table.old).setup }
+    requires free { hand_of (P.trustee_view side.old) client ≡ None }
+    requires waits { NothingWaits (state_after S.kind (P.opening table.old) (P.trustee_view side.old).log) client }
+    requires front { front ≡ min (length (P.trustee_view side.old).log + 1) (2 ^ 64 - 1) }
+    ensures log { ((P.trustee_view side.new).log ≡ (P.trustee_view side.old).log) ⊎ AnswersNothing client (P.trustee_view side.old) (P.trustee_view side.new) }
+    ensures mine { P.HasTrustee table.new side.new }
+    ensures opening { P.opening table.new ≡ P.opening table.old }
+    ensures clients { (other : P.ClientSide) → P.HasClient table.old other → P.HasClient table.new other }
+{
+    let _ = answer_nothing(table, side, client, front);
+}
+
+/// One round: a client's side with nothing out asks nothing, the trustee looks at its place and
+/// answers, and the client looks for the answers. `front` is the length of the log with its answer.
+/// Another thread may come between any two of the three calls, so the trustee may find no batch, and
+/// the client no answers yet.
+pub fn once_round<S: SmallBatch, P: PairTable<S>>(
+    table: &mut P,
+    client: &mut P::ClientSide,
+    trustee: &mut P::TrusteeSide,
+    place: u32,
+    front: u64,
+) -> Collected<S>
+    requires client { P.HasClient table.old client.old }
+    requires trustee { P.HasTrustee table.old trustee.old }
+    requires place { (P.client_view client.old).place ≡ place }
+    requires out { (P.client_view client.old).out ≡ None }
+    requires hand { hand_of (P.trustee_view trustee.old) place ≡ None }
+    requires waits { NothingWaits (state_after S.kind (P.opening table.old) (P.trustee_view trustee.old).log) place }
+    requires front { front ≡ min (length (P.trustee_view trustee.old).log + 1) (2 ^ 64 - 1) }
+    ensures finds { FindsNothing (P.client_view client.old) (P.client_view client.new) result }
+    ensures log { ((P.trustee_view trustee.new).log ≡ (P.trustee_view trustee.old).log) ⊎ AnswersNothing place (P.trustee_view trustee.old) (P.trustee_view trustee.new) }
+    ensures client { P.HasClient table.new client.new }
+    ensures trustee { P.HasTrustee table.new trustee.new }
+    ensures opening { P.opening table.new ≡ P.opening table.old }
+{
+    ask_free(table, client);
+    answer_free(table, trustee, place, front);
+    table.collect(client)
 }

@@ -1,0 +1,135 @@
+-- What comes back to a side that had nothing out and asked nothing.
+use Rattle.std.proofs.Common.{◌≡◌, ℕ, ◌+◌, ◌≤◌, ◌⊎◌, false, true, List, [], ◌∷◌, ◌++◌, length, inl, inr, refl, sym, ◌∙◌, ap, subst, arith, append-nil, length-append}
+use Rattle.std.specs.Prelude.{IsSomeAnd}
+use Rattle.std.specs.declared.option.Option.{Option}
+use Rattle.std.specs.declared.option.Option.TheVariants.{None, Some}
+use Rattle.tm_seq.specs.Kind.{Kind}
+use Rattle.tm_batch.specs.declared.batch.Batch.{Batch}
+use Rattle.tm_batch.specs.declared.message.Request.{Request}
+use Rattle.tm_batch.specs.declared.message.AnswerBatch.{AnswerBatch}
+use Rattle.tm_model.specs.declared.entry.Entry.{Entry}
+use Rattle.tm_model.specs.declared.entry.Entry.TheVariants.{Sent}
+use Rattle.tm_model.specs.State.{State, place_count, place_of}
+use Rattle.tm_model.specs.Slots.{looked}
+use Rattle.tm_model.specs.Ran.{mark_of, ran}
+use Rattle.tm_model.specs.Entries.{batch_entries}
+use Rattle.tm_model.specs.Holds.{launches_in, spent_in, ended_in}
+use Rattle.tm_core.proofs.First.{opening_unfinished}
+use Rattle.tm_core.proofs.LaunchLog.{log_launches}
+use Rattle.tm_core.proofs.Marks.{ran-append}
+use Rattle.tm_core.proofs.Numbering.{opening_place}
+use Rattle.tm_core.proofs.Ordered.{opening_ordered}
+use Rattle.tm_core.proofs.Tallies.{ended_in-append}
+use Rattle.tm_pair.specs.Views.{ClientView}
+use Rattle.tm_pair.specs.Calls.{Publishes, AreAnswers, Gets, Collects}
+use Rattle.tm_pair.specs.Sides.{HasRun, IsGoodClient}
+use Rattle.tm_pair.specs.Rounds.{AwaitsNothing, GetsNothing, FindsNothing}
+use Rattle.tm_pair.specs.declared.table.Collected.{Collected}
+use Rattle.tm_pair.specs.declared.table.Collected.TheVariants.{Answers, Pending, Idle}
+
+none : {X : Type 0} (l : List X) → length l ≤ 0 → l ≡ []
+none [] h = refl
+none (x ∷ l) h = let no : ⊥ = omega (arith, h) in absurd no
+
+-- what joins a list to itself is empty
+same_join : {X : Type 0} (l m : List X) → l ≡ l ++ m → m ≡ []
+same_join l m e = let n : length l ≡ length (l ++ m) = ap (λ x. length x) e in let joined = length-append l m in none m (omega (arith, n, joined))
+
+empty_or : {X A B : Type 0} (l : List X) → (l ≡ [] → A) → (¬ (l ≡ []) → B) → B ⊎ A
+empty_or [] then else = inr (then refl)
+empty_or (x ∷ l) then else = inl (else (λ e. absurd cc))
+
+module _ {V O R T : Type 0} where
+  -- a batch was found that has no request, or not
+  pub nothing_or :
+      {A B : Type 0} (seen : Option (Batch V O R T)) → (IsSomeAnd seen (λ b. b.requests.items ≡ []) → A) → (¬ IsSomeAnd seen (λ b. b.requests.items ≡ []) → B)
+      → B ⊎ A
+  nothing_or None then else = inl (else (λ h. h))
+  nothing_or (Some b) then else = empty_or b.requests.items then else
+
+module _ {V O R T : Type 0} (kind : Kind V O R T) (opening : State V O R T) where
+  -- a side with nothing out has seen all that it sent run
+  all_ran : (view : ClientView V O R T) → IsGoodClient kind opening view → view.out ≡ None → view.sent ≡ ran view.place view.seen
+  all_ran view good free = subst (λ out. HasRun out view.sent (ran view.place view.seen)) free good.runs
+
+  -- no more launches of a side ended than it sent
+  ended_were_sent : (view : ClientView V O R T) → IsGoodClient kind opening view → view.out ≡ None → ended_in view.got ≤ launches_in view.sent
+  ended_were_sent view good free =
+      let n = place_count opening.setup in
+      let flow = log_launches kind n view.place good.in_range 0 [] opening view.seen (opening_ordered opening good.opens) good.is_legal in
+      let nothing = opening_unfinished opening view.place good.opens in
+      let not_ready = ap (λ p. length p.ready) (opening_place opening view.place good.opens good.in_range).1 in
+      let sent = ap (λ l. launches_in l) (all_ran view good free) in
+      let got = ap (λ l. ended_in l) good.leaves in
+      omega (arith, flow, nothing, not_ready, sent, got)
+
+  -- nothing was asked, so the batch that was out is empty
+  nothing_was_out :
+      (old mid : ClientView V O R T) (b : List (Request V O R T)) → IsGoodClient kind opening old → old.out ≡ None → Publishes [] 0 old mid
+      → mid.sent ≡ ran mid.place mid.seen ++ b → b ≡ []
+  nothing_was_out old mid b good free asks batch =
+      let sent : old.sent ≡ ran mid.place mid.seen ++ b = sym (append-nil old.sent) ∙ sym asks.sent ∙ batch in
+      let same : ran mid.place mid.seen ≡ old.sent = ap (λ c. ran c mid.seen) asks.place ∙ ap (λ l. ran old.place l) asks.seen ∙ sym (all_ran old good free) in
+      same_join (ran mid.place mid.seen) b (same ∙ sent)
+
+  -- the log that a side has seen grew by entries of which none is a request of it
+  others_ran_none :
+      (old new : ClientView V O R T) (others : List (Entry V O R T)) (room : ℕ) → IsGoodClient kind opening old → IsGoodClient kind opening new
+      → old.out ≡ None → new.out ≡ None → new.place ≡ old.place → new.sent ≡ old.sent
+      → new.seen ≡ old.seen ++ others ++ Sent old.place room ∷ [] → ran old.place others ≡ []
+  others_ran_none old new others room good after free got place sent seen =
+      let c = old.place in
+      let now : new.sent ≡ ran c new.seen = all_ran new after got ∙ ap (λ d. ran d new.seen) place in
+      let grown = ap (λ l. ran c l) seen ∙ ran-append mark_of c (old.seen ++ others) (Sent c room ∷ []) ∙ append-nil (ran c (old.seen ++ others)) in
+      let parts = ran-append mark_of c old.seen others in
+      same_join (ran c old.seen) (ran c others) (sym (all_ran old good free) ∙ sym sent ∙ now ∙ grown ∙ parts)
+
+  gets_nothing :
+      (old mid new : ClientView V O R T) (a : AnswerBatch V O R T) → IsGoodClient kind opening old → IsGoodClient kind opening new → old.out ≡ None
+      → Publishes [] 0 old mid → Gets a mid new → GetsNothing a old new
+  gets_nothing old mid new a good after free asks gets =
+      let (b, room, are) = gets.answers in
+      let rooms : room ≡ 0 = let e : Some room ≡ Some 0 = sym are.out ∙ asks.out in cc in
+      let empty = nothing_was_out old mid b good free asks are.batch in
+      let few : length b ≡ 0 = ap (λ l. length l) empty in
+      let count = are.answers in
+      let most = are.gifts in
+      let place : new.place ≡ old.place = gets.place ∙ asks.place in
+      let sent : new.sent ≡ old.sent = gets.sent ∙ asks.sent ∙ append-nil old.sent in
+      let got : new.got ≡ old.got ++ a ∷ [] = gets.got ∙ ap (λ l. l ++ a ∷ []) asks.got in
+      let (others, grown) = are.seen in
+      let seen : new.seen ≡ old.seen ++ others ++ Sent old.place 0 ∷ [] =
+      grown ∙ ap (λ q. mid.seen ++ others ++ batch_entries mid.seen mid.place q room a.answers.items) empty
+      ∙ ap (λ l. l ++ others ++ Sent mid.place room ∷ []) asks.seen ∙ ap (λ c. old.seen ++ others ++ Sent c room ∷ []) asks.place
+      ∙ ap (λ r. old.seen ++ others ++ Sent old.place r ∷ []) rooms in
+      record {
+        answers = none a.answers.items (omega (arith, count, few));
+        gifts = none a.gifts.items (omega (arith, most, rooms));
+        completions = λ ended.
+            let all = ended_were_sent new after gets.out in
+            let launches = ap (λ l. launches_in l) sent in
+            let more = ap (λ l. ended_in l) got in
+            let joined = ended_in-append old.got (a ∷ []) in
+            none a.completions.items (omega (arith, ended, all, launches, more, joined));
+        place = place;
+        sent = sent;
+        got = got;
+        seen = (others, others_ran_none old new others 0 good after free gets.out place sent seen, seen);
+        out = gets.out;
+        looks = gets.looks ∙ ap (looked true) asks.looks;
+      }
+
+  pub finds_nothing :
+      (old mid new : ClientView V O R T) (found : Collected V O R T) → IsGoodClient kind opening old → IsGoodClient kind opening new
+      → old.out ≡ None → Publishes [] 0 old mid → Collects mid new found → FindsNothing old new found
+  finds_nothing old mid new Idle good after free asks finds = let was : mid.out ≡ None = finds.out in let is : mid.out ≡ Some 0 = asks.out in absurd cc
+  finds_nothing old mid new Pending good after free asks finds =
+      let (room, was, is) = finds.out in record {
+        place = finds.place ∙ asks.place;
+        sent = finds.sent ∙ asks.sent ∙ append-nil old.sent;
+        got = finds.got ∙ asks.got;
+        seen = finds.seen ∙ asks.seen;
+        out = is ∙ sym was ∙ asks.out;
+        looks = finds.looks ∙ ap (looked false) asks.looks;
+      }
+  finds_nothing old mid new (Answers a) good after free asks finds = gets_nothing old mid new a good after free asks finds
