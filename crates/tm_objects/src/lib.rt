@@ -3,6 +3,7 @@
 
 mod entry;
 mod gifts;
+mod keys;
 mod laws;
 mod left;
 mod live;
