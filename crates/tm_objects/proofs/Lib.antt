@@ -7,3 +7,4 @@ pub mod Queues
 pub mod Alike
 pub mod Rising
 pub mod Sparse
+pub mod Counted

@@ -7,3 +7,4 @@ pub mod LendingObjects
 pub mod Standing
 pub mod Rising
 pub mod Sparse
+pub mod Counted

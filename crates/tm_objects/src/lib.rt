@@ -3,6 +3,7 @@
 
 mod entry;
 mod gifts;
+mod held;
 mod keys;
 mod laws;
 mod left;
