@@ -1,7 +1,7 @@
 -- Lemmas on the sets of slots that places hold.
-use Rattle.std.proofs.Common.{◌≡◌, ◌≢◌, ℕ, ◌+◌, ◌*◌, ◌<◌, ◌≤◌, Bool, true, false, cond, not, List, [], length, get_or, set, Option, Some, None, refl, sym, ap, ◌∙◌, inl, inr, arith, lit<, length-set}
+use Rattle.std.proofs.Common.{◌≡◌, ◌≢◌, ℕ, ◌+◌, ◌<◌, ◌≤◌, Bool, true, false, cond, not, List, [], length, get_or, set, Option, Some, None, refl, sym, ap, ◌∙◌, inl, inr, arith, lit<, length-set}
 use Rattle.std.specs.Prelude.{sum, count_by, replicate, All, ◌==◌}
-use Rattle.std.proofs.lemmas.Bool.{cases_eq, cases_lt, eq-eqb, ne_eqb}
+use Rattle.std.proofs.lemmas.Bool.{cases_eq, cases_lt, ne_eqb}
 use Rattle.std.proofs.lemmas.List.{get_or-set_same, get_or-set_other, get_or_past, get_or-replicate, length-replicate}
 use Rattle.std.proofs.lemmas.List.Folds.{sum_by-replicate}
 use Rattle.std.proofs.lemmas.List.Sums.{sum_by-set}
@@ -9,7 +9,7 @@ use Rattle.std.proofs.lemmas.List.Elements.{All-set, All-get_or, All-replicate}
 use Rattle.slab.specs.Slab.{Slab, get, with_value, Updates}
 use Rattle.slab.proofs.SlabLemmas.{Updates-with_value}
 use Rattle.tm_objects.proofs.At.{one_hold}
-use Rattle.tm_objects.specs.Live.{Live, total, holds_of, with_holds, is_held, count_in, first_held}
+use Rattle.tm_objects.specs.Live.{Live, total, holds_of, with_holds, is_held, first_held}
 use Rattle.tm_objects.specs.Listing.{if_held, Settles}
 use Rattle.tm_objects.specs.Counted.{flags_of, is_in, has_hold, AreCounted}
 use Rattle.tm_objects.proofs.Sound.{zero_counts, updates_after}

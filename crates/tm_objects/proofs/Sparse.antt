@@ -1,6 +1,6 @@
 -- Lemmas on a sparse set of keys.
 use Rattle.std.proofs.Common.{◌≡◌, ◌≢◌, ℕ, zero, suc, ◌+◌, ◌<◌, ◌≤◌, Bool, true, false, cond, List, [], ◌∷◌, ◌++◌, length, get_or, set, refl, sym, ap, ◌∙◌, inl, inr, arith, length-append, length-set}
-use Rattle.std.specs.Prelude.{count_by, map, replicate, ◌==◌, not}
+use Rattle.std.specs.Prelude.{count_by, map, replicate}
 use Rattle.std.proofs.lemmas.Bool.{cases_eq, cases_lt, eq-eqb, ne_eqb}
 use Rattle.std.proofs.Math.Seq.{get_or-append_seam}
 use Rattle.std.proofs.lemmas.List.{get_or-map, get_or_append_left, get_or-set_same, get_or-set_other, get_or_past, get_or-replicate, length-replicate, map-set, set-get_or, length-map}

@@ -72,11 +72,13 @@ impl<S: Entrusted> Objects<S> {
     }
 
     /// What holds at any time: at most as many objects are live as may be, and they have rising ids
-    /// below the next one, a count for each place, and a hold or a launch. Nothing runs.
+    /// below the next one, a count of 32 bits for each place, and a hold or a launch; and at most
+    /// 1,024 gifts wait for each place. Nothing runs.
     pub fn known(&self)
         ensures { IsStock self.now }
     {
         self.live.known();
+        self.gifts.known();
     }
 
     /// Takes a value as the object of the next id, which a place holds once. It is refused where as

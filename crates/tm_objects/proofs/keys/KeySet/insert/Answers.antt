@@ -1,6 +1,5 @@
-use Rattle.std.proofs.Common.{◌≡◌, ◌<◌, Bool, true, false, List, length, get_or, set, ap, sym, ◌∙◌, arith}
+use Rattle.std.proofs.Common.{Bool, true, false, List, get_or, set, ap, sym, ◌∙◌, arith}
 use Rattle.std.proofs.lemmas.Grind.{get_or_default_zero}
-use Rattle.tm_objects.specs.Sparse.{absent}
 use Rattle.tm_objects.proofs.Sparse.{seen, fewer, sparse-insert, inserted_is, flag_in, flag-kept}
 use Rattle.tm_objects.proofs.keys.KeySet.insert.Goals as goal
 

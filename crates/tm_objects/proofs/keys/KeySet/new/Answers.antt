@@ -1,7 +1,7 @@
-use Rattle.std.proofs.Common.{◌∙◌, ap, List, ℕ, arith, refl}
-use Rattle.std.specs.Prelude.{map, replicate}
-use Rattle.tm_objects.specs.Sparse.{absent, is_member}
-use Rattle.tm_objects.proofs.Sparse.{sparse_none, flags_none}
+use Rattle.std.proofs.Common.{◌∙◌, ap, List, ℕ}
+use Rattle.std.specs.Prelude.{map}
+use Rattle.tm_objects.specs.Sparse.{is_member}
+use Rattle.tm_objects.proofs.Sparse.{flags_none}
 use Rattle.tm_objects.proofs.keys.KeySet.new.Goals as goal
 
 pub returns : goal.returns

@@ -1,7 +1,6 @@
-use Rattle.std.proofs.Common.{◌≡◌, ◌++◌, ◌∷◌, [], Bool, false, refl, Some, List, ℕ, length, get_or, set, ap, sym, ◌∙◌, arith, subst}
-use Rattle.std.specs.Prelude.{option_to_list}
+use Rattle.std.proofs.Common.{◌≡◌, ◌∷◌, [], Bool, false, refl, List, ℕ, length, get_or, set, ap, sym, ◌∙◌, arith, subst}
 use Rattle.std.specs.Vec.{vec_capacity}
-use Rattle.tm_objects.specs.Sparse.{absent, IsSparse}
+use Rattle.tm_objects.specs.Sparse.{IsSparse}
 use Rattle.tm_objects.proofs.Sparse.{sparse-last, removed_is, last_in, none_in}
 use Rattle.tm_objects.proofs.keys.KeySet.pop.Goals as goal
 

@@ -1,8 +1,8 @@
-use Rattle.std.proofs.Common.{◌≡◌, ◌≢◌, ◌<◌, ◌++◌, ◌∷◌, [], Bool, false, List, ℕ, length, get_or, set, ap, sym, ◌∙◌, arith, subst, length-append}
+use Rattle.std.proofs.Common.{◌++◌, ◌∷◌, [], Bool, false, List, ℕ, get_or, set, ap, sym, ◌∙◌, arith, subst}
 use Rattle.std.proofs.lemmas.Grind.{get_or_default_zero}
 use Rattle.std.specs.Vec.{vec_capacity}
-use Rattle.tm_objects.specs.Sparse.{absent, IsSparse}
-use Rattle.tm_objects.proofs.Sparse.{seen, flag_at, flag_out, flag-kept, moved_short, sparse-last, sparse-moved, removed_is, moved_is}
+use Rattle.tm_objects.specs.Sparse.{IsSparse}
+use Rattle.tm_objects.proofs.Sparse.{seen, flag_out, flag-kept, moved_short, sparse-last, sparse-moved, removed_is, moved_is}
 use Rattle.tm_objects.proofs.keys.KeySet.remove.Goals as goal
 
 pub returns-then-position : goal.returns-then-position

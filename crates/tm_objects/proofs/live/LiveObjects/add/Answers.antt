@@ -59,17 +59,16 @@ invariant_of-self g c =
     let zeros : c.in-Some.row.items ≡ replicate c.self.inside.places 0 =
     (All-pop (λ row. row ≡ replicate c.self.inside.places 0) (map f c.self.inside.spare.items) (map f c.pop.new.self.items) (Some c.in-Some.row.items) more c.self.invariant.0.blank).1 in
     let within : c.args.place < c.self.inside.places = let e = ap (λ (s : LiveList g.row.V.Denot). s.places) c.self.view_is in omega (arith, e, c.requires.place) in
-    let is = first c.new-entry.result c.add_hold.new.self (c.self.inside.given + 1) c.args.value c.self.inside.places c.args.place c.in-Some.row.items zeros within c.new-entry.ensures c.add_hold.ensures in
-    (
+    let is = first c.new-entry.result c.add_hold.new.self (c.self.inside.given + 1) c.args.value c.self.inside.places c.args.place c.in-Some.row.items zeros within c.new-entry.ensures c.add_hold.ensures in (
       rw c.in-Some.ensures.capacity
-      (sound_add c.self.invariant.0 c.insert_reserved-key.new.self _ c.in-Some.row.items c.insert_reserved-key.result c.add_hold.new.self more
-      c.insert_reserved-key.ensures.was_vacant c.insert_reserved-key.ensures.updates c.insert_reserved-key.ensures.len c.insert_reserved-key.ensures.capacity
-      (ap (λ (o : Live g.row.V.Denot). o.id) is)
-      (ap (λ (o : Live g.row.V.Denot). length o.holds) is ∙ (length-set (replicate c.self.inside.places 0) c.args.place 1 ∙ length-replicate c.self.inside.places 0))
-      (rw is (first_total (c.self.inside.given + 1) c.args.value c.self.inside.places c.args.place within))).0,
+          (sound_add c.self.invariant.0 c.insert_reserved-key.new.self _ c.in-Some.row.items c.insert_reserved-key.result c.add_hold.new.self more
+          c.insert_reserved-key.ensures.was_vacant c.insert_reserved-key.ensures.updates c.insert_reserved-key.ensures.len c.insert_reserved-key.ensures.capacity
+          (ap (λ (o : Live g.row.V.Denot). o.id) is)
+          (ap (λ (o : Live g.row.V.Denot). length o.holds) is ∙ (length-set (replicate c.self.inside.places 0) c.args.place 1 ∙ length-replicate c.self.inside.places 0))
+          (rw is (first_total (c.self.inside.given + 1) c.args.value c.self.inside.places c.args.place within))).0,
       rw c.keep_key.ensures
-      (counted_add c.self.invariant.1 c.insert_reserved-key.result c.args.place (c.self.inside.given + 1) c.args.value c.add_hold.new.self c.insert_reserved-key.ensures.was_vacant
-      c.insert_reserved-key.ensures.updates c.insert_reserved-key.ensures.capacity c.insert_reserved-key.ensures.key_in_range within is),
+          (counted_add c.self.invariant.1 c.insert_reserved-key.result c.args.place (c.self.inside.given + 1) c.args.value c.add_hold.new.self c.insert_reserved-key.ensures.was_vacant
+          c.insert_reserved-key.ensures.updates c.insert_reserved-key.ensures.capacity c.insert_reserved-key.ensures.key_in_range within is),
     )
 
 pub returns-clause-added : goal.returns-clause-added

@@ -18,9 +18,9 @@ invariant_of-self g c =
     let there = c.index_mut.ensures.value in
     let o = c.index_mut.result.now in (
       sound_write c.self.invariant.0 c.key_of-key.result o c.begin.new.self there
-      (ap (λ (o : Live g.row.V.Denot). o.id) c.begin.ensures)
-      (ap (λ (o : Live g.row.V.Denot). length o.holds) c.begin.ensures)
-      (rw c.begin.ensures (omega arith)),
+          (ap (λ (o : Live g.row.V.Denot). o.id) c.begin.ensures)
+          (ap (λ (o : Live g.row.V.Denot). length o.holds) c.begin.ensures)
+          (rw c.begin.ensures (omega arith)),
       counted_write c.self.invariant.1 c.key_of-key.result o c.begin.new.self there (ap (λ (o : Live g.row.V.Denot). o.holds) c.begin.ensures),
     )
 

@@ -29,9 +29,9 @@ invariant_of-self g c =
     let wide = (c.self.invariant.0.standing c.key_of-key.result o there).width in
     let settles = rw at at c.settle.ensures.settles in (
       rw c.settle.ensures.capacity (sound_settle c.self.inside.slots c.settle.new.slots _ _ _ _ _ _ c.self.invariant.0 c.key_of-key.result o p there
-      (ap (λ (q : Live g.row.V.Denot). q.id) c.finish.ensures)
-      (ap (λ (q : Live g.row.V.Denot). length q.holds) c.finish.ensures ∙ wide)
-      settles),
+          (ap (λ (q : Live g.row.V.Denot). q.id) c.finish.ensures)
+          (ap (λ (q : Live g.row.V.Denot). length q.holds) c.finish.ensures ∙ wide)
+          settles),
       counted_settle_same c.self.invariant.1 c.key_of-key.result o p there (ap (λ (q : Live g.row.V.Denot). q.holds) c.finish.ensures) settles,
     )
 

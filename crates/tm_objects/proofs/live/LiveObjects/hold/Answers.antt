@@ -41,12 +41,12 @@ invariant_of-self g c =
     let found = found_at c.self.invariant.0 _ c.args.name.id c.key_of-key.result o (ap (λ (s : LiveList g.row.V.Denot). s.live) c.self.view_is) c.index_mut.ensures.value same in
     let small = (rw found at c.requires.live).0 in (
       sound_write c.self.invariant.0 c.key_of-key.result o c.add_hold.new.self c.index_mut.ensures.value
-      (ap (λ (p : Live g.row.V.Denot). p.id) c.add_hold.ensures)
-      (ap (λ (p : Live g.row.V.Denot). length p.holds) c.add_hold.ensures ∙ length-set o.holds c.args.place (holds_of o c.args.place + 1))
-      (rw c.add_hold.ensures (omega (arith, summed))),
+          (ap (λ (p : Live g.row.V.Denot). p.id) c.add_hold.ensures)
+          (ap (λ (p : Live g.row.V.Denot). length p.holds) c.add_hold.ensures ∙ length-set o.holds c.args.place (holds_of o c.args.place + 1))
+          (rw c.add_hold.ensures (omega (arith, summed))),
       rw c.keep_key.ensures
-      (counted_hold c.self.invariant.1 c.key_of-key.result o c.index_mut.ensures.value c.args.place within c.add_hold.new.self (holds_of o c.args.place + 1) true c.add_hold.ensures
-      (omega (arith, small)) (holds_yes o c.add_hold.new.self c.args.place (holds_of o c.args.place) c.add_hold.ensures (omega (arith, wide, within)))),
+          (counted_hold c.self.invariant.1 c.key_of-key.result o c.index_mut.ensures.value c.args.place within c.add_hold.new.self (holds_of o c.args.place + 1) true c.add_hold.ensures
+          (omega (arith, small)) (holds_yes o c.add_hold.new.self c.args.place (holds_of o c.args.place) c.add_hold.ensures (omega (arith, wide, within)))),
     )
 
 pub returns : goal.returns

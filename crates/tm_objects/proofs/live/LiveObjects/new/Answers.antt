@@ -10,12 +10,12 @@ use Rattle.tm_objects.proofs.live.LiveObjects.new.Goals as goal
 pub invariant_of-result : goal.invariant_of-result
 invariant_of-result g c = (
   sound_none c.in_ok-slots.slots _ _ c.args.most c.args.places c.in_ok-slots.ensures.empty
-  (length-map c.in_ok-spare.spare.items (λ (row : Vec ℕ Global). row.items) ∙ c.in_ok-spare.ensures.len)
-  c.in_ok-spare.ensures.blank
-  c.in_ok-slots.ensures.capacity
-  (omega (arith, c.in_ok-spare.ensures.capacity)),
+      (length-map c.in_ok-spare.spare.items (λ (row : Vec ℕ Global). row.items) ∙ c.in_ok-spare.ensures.len)
+      c.in_ok-spare.ensures.blank
+      c.in_ok-slots.ensures.capacity
+      (omega (arith, c.in_ok-spare.ensures.capacity)),
   counted_none c.in_ok-slots.slots c.in_ok-held.held.items c.args.places c.in_ok-slots.ensures.empty
-  (c.in_ok-held.ensures ∙ ap (λ (n : ℕ). replicate c.args.places (replicate n false)) c.capacity.ensures.value),
+      (c.in_ok-held.ensures ∙ ap (λ (n : ℕ). replicate c.args.places (replicate n false)) c.capacity.ensures.value),
 )
 
 pub returns : goal.returns

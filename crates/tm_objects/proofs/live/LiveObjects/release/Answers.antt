@@ -1,4 +1,4 @@
-use Rattle.std.proofs.Common.{◌-◌, ◌≤◌, length, refl, ap, ◌∙◌, length-set, ℕ, ◌<◌, arith}
+use Rattle.std.proofs.Common.{◌-◌, ◌≤◌, length, refl, ap, ◌∙◌, length-set, ◌<◌, arith}
 use Rattle.slab.proofs.SlabLemmas.{Updates-with_value}
 use Rattle.tm_objects.specs.Live.{Live, LiveList, holds_of, with_holds, change, kept}
 use Rattle.tm_objects.specs.Counted.{has_hold}
@@ -44,11 +44,11 @@ invariant_of-self g c =
     let within : c.args.place < c.self.inside.places = let e = ap (λ (s : LiveList g.row.V.Denot). s.places) c.self.view_is in omega (arith, e, c.requires.place) in
     let settles = rw at at c.settle.ensures.settles in (
       rw c.settle.ensures.capacity (sound_settle c.self.inside.slots c.settle.new.slots _ _ _ _ _ _ c.self.invariant.0 c.key_of-key.result o p there
-      (ap (λ (q : Live g.row.V.Denot). q.id) c.take_hold.ensures)
-      (ap (λ (q : Live g.row.V.Denot). length q.holds) c.take_hold.ensures ∙ (length-set o.holds c.args.place (holds_of o c.args.place - 1) ∙ wide))
-      settles),
+          (ap (λ (q : Live g.row.V.Denot). q.id) c.take_hold.ensures)
+          (ap (λ (q : Live g.row.V.Denot). length q.holds) c.take_hold.ensures ∙ (length-set o.holds c.args.place (holds_of o c.args.place - 1) ∙ wide))
+          settles),
       rw c.note_hold.ensures
-      (counted_settle c.self.invariant.1 c.key_of-key.result o there c.args.place within p (holds_of o c.args.place - 1) _ c.take_hold.ensures (omega (arith, count_small c.self.invariant.1 c.key_of-key.result o there c.args.place within)) (ap (λ x. has_hold x c.args.place) at) settles),
+          (counted_settle c.self.invariant.1 c.key_of-key.result o there c.args.place within p (holds_of o c.args.place - 1) _ c.take_hold.ensures (omega (arith, count_small c.self.invariant.1 c.key_of-key.result o there c.args.place within)) (ap (λ x. has_hold x c.args.place) at) settles),
     )
 
 pub returns-clause-left : goal.returns-clause-left

@@ -31,14 +31,13 @@ invariant_of-self g c =
     let wide = (c.self.invariant.0.standing c.key_of-key.result o there).width in
     let f = λ (row : Vec ℕ Global). row.items in
     let e = ap (λ (s : LiveList g.row.V.Denot). s.places) c.self.view_is in
-    let within : c.args.place < c.self.inside.places = let e = ap (λ (s : LiveList g.row.V.Denot). s.places) c.self.view_is in omega (arith, e, c.requires.place) in
-    (
+    let within : c.args.place < c.self.inside.places = let e = ap (λ (s : LiveList g.row.V.Denot). s.places) c.self.view_is in omega (arith, e, c.requires.place) in (
       rw c.push_reserved.ensures.capacity
-      (sound_less c.self.inside.slots c.remove.new.self _ _ _ _ _ _ c.self.invariant.0 c.key_of-key.result o (set o.holds c.args.place 0) there c.remove.ensures.updates c.remove.ensures.len c.remove.ensures.capacity
-      (ap (λ (rows : List (Vec ℕ Global)). map f rows) c.push_reserved.ensures.items ∙ (map-append f c.self.inside.spare.items _ ∙ rw c.into_parts-value.ensures.holds refl))
-      (one_hold o c.args.place c.self.inside.places live.0 live.1 (omega (arith, wide, e, c.requires.place)) wide)),
+          (sound_less c.self.inside.slots c.remove.new.self _ _ _ _ _ _ c.self.invariant.0 c.key_of-key.result o (set o.holds c.args.place 0) there c.remove.ensures.updates c.remove.ensures.len c.remove.ensures.capacity
+          (ap (λ (rows : List (Vec ℕ Global)). map f rows) c.push_reserved.ensures.items ∙ (map-append f c.self.inside.spare.items _ ∙ rw c.into_parts-value.ensures.holds refl))
+          (one_hold o c.args.place c.self.inside.places live.0 live.1 (omega (arith, wide, e, c.requires.place)) wide)),
       rw c.forget_key.ensures
-      (counted_less c.self.invariant.1 c.key_of-key.result o there c.args.place within c.remove.new.self c.remove.ensures.updates c.remove.ensures.capacity live.0 live.1 wide),
+          (counted_less c.self.invariant.1 c.key_of-key.result o there c.args.place within c.remove.new.self c.remove.ensures.updates c.remove.ensures.capacity live.0 live.1 wide),
     )
 
 pub returns-clause-value : goal.returns-clause-value

@@ -9,10 +9,9 @@ key_of-key-requires g c = slot_there c.self.invariant.0 _ _ (ap (λ (s : LiveLis
 
 pub invariant_of-self-lent : goal.invariant_of-self-lent
 invariant_of-self-lent g c w =
-    let o = c.index_mut.result.now in
-    (
+    let o = c.index_mut.result.now in (
       sound_write c.self.invariant.0 c.key_of-key.result o (with_value w o) c.index_mut.ensures.value refl refl
-      (c.self.invariant.0.standing c.key_of-key.result o c.index_mut.ensures.value).held,
+          (c.self.invariant.0.standing c.key_of-key.result o c.index_mut.ensures.value).held,
       counted_write c.self.invariant.1 c.key_of-key.result o (with_value w o) c.index_mut.ensures.value refl,
     )
 
