@@ -53,10 +53,11 @@ less_flags held c key within was =
 pub zero_sum : (n : ℕ) → sum (replicate n 0) ≡ 0
 zero_sum n = sum_by-replicate (λ (x : ℕ). x) n 0 ∙ omega arith
 
-zero_at : (n c : ℕ) → ◌≡◌ {A = ℕ} (get_or (replicate n 0) c 0) 0
-zero_at n c = elim (cases_lt c n) [
-  | inl l ↦ get_or-replicate {A = ℕ} n c 0 0 l
-  | inr g ↦ get_or_past (replicate n 0) c 0 (rw length-replicate g)
+-- what a list of one value gives with that value past its end
+blank_at : {X : Type 0} (n c : ℕ) (x : X) → get_or (replicate n x) c x ≡ x
+blank_at n c x = elim (cases_lt c n) [
+  | inl l ↦ get_or-replicate n c x x l
+  | inr g ↦ get_or_past (replicate n x) c x (rw length-replicate g)
 ]
 
 module _ {V : Type 0} where
@@ -65,10 +66,10 @@ module _ {V : Type 0} where
   none_held o e c =
       let z : total o ≡ 0 = elim (cases_eq (total o) 0) [ inl z ↦ z | inr n ↦ absurd (let t : true ≡ false = rw (ne_eqb (total o) 0 n) at e in cc) ] in
       let zeros = zero_counts o.holds (omega arith) in
-      ap (λ (l : List ℕ). get_or l c 0) zeros ∙ zero_at (length o.holds) c
+      ap (λ (l : List ℕ). get_or l c 0) zeros ∙ blank_at {X = ℕ} (length o.holds) c 0
 
   -- what goes where nothing holds it was held by no place
-  pub held_alike : (o : Live V) (c : ℕ) → has_hold (if_held o) c ≡ has_hold (Some o) c
+  held_alike : (o : Live V) (c : ℕ) → has_hold (if_held o) c ≡ has_hold (Some o) c
   held_alike o c = by (is_held o) refl
     where
       by : (b : Bool) → is_held o ≡ b → has_hold (if_held o) c ≡ has_hold (Some o) c
@@ -76,7 +77,7 @@ module _ {V : Type 0} where
       by false e = rw (e, none_held o e c) refl
 
   -- a hold of one place leaves those of the others
-  pub hold_other : (o : Live V) (c d n : ℕ) → d ≢ c → has_hold (Some (with_holds c n o)) d ≡ has_hold (Some o) d
+  hold_other : (o : Live V) (c d n : ℕ) → d ≢ c → has_hold (Some (with_holds c n o)) d ≡ has_hold (Some o) d
   hold_other o c d n ne = ap (λ (m : ℕ). not (m == 0)) (get_or-set_other o.holds c d n 0 ne)
 
   pub hold_set : (o : Live V) (c n : ℕ) → c < length o.holds → has_hold (Some (with_holds c n o)) c ≡ not (n == 0)
@@ -99,7 +100,7 @@ module _ {V : Type 0} where
     ]
 
     -- one slot changes, on which each place has a hold as before
-    pub counted_same : ((d : ℕ) → has_hold slot d ≡ has_hold (get slab key) d) → AreCounted new held places
+    counted_same : ((d : ℕ) → has_hold slot d ≡ has_hold (get slab key) d) → AreCounted new held places
     counted_same same = record {
       sets = counted.sets;
       sizes = rw capacity counted.sizes;
@@ -112,7 +113,7 @@ module _ {V : Type 0} where
     }
 
     -- one slot changes, and with it the hold of one place
-    pub counted_change :
+    counted_change :
         (c : ℕ) (b : Bool) → c < places → key < slab.capacity → b ≡ has_hold slot c → ((d : ℕ) → d ≢ c → has_hold slot d ≡ has_hold (get slab key) d)
         → AreCounted new (set held c (set (flags_of held c) key b)) places
     counted_change c b within inside here same = record {
@@ -210,7 +211,7 @@ module _ {V : Type 0} where
         none_else : (d : ℕ) → d ≢ c → holds_of o d ≡ 0
         none_else d ne =
             sym (get_or-set_other o.holds c d 0 0 ne)
-            ∙ (ap (λ (l : List ℕ). get_or l d 0) (one_hold o c places one has (omega (arith, wide, within)) wide) ∙ zero_at places d)
+            ∙ (ap (λ (l : List ℕ). get_or l d 0) (one_hold o c places one has (omega (arith, wide, within)) wide) ∙ blank_at {X = ℕ} places d 0)
 
   -- a new object has come that a place holds
   pub counted_add :
@@ -222,7 +223,7 @@ module _ {V : Type 0} where
       (λ q e. let s : o ≡ q = cc in (omega (arith, capacity, inside), rw (sym s, is) (All-set (λ n. n < 4294967296) (replicate places 0) c 1 (lit< tt) (All-replicate (λ n. n < 4294967296) places 0 (lit< tt)))))
       c true within (omega (arith, capacity, inside))
       (rw is (ap (λ (m : ℕ). not (m == 0)) (sym (get_or-set_same (replicate places 0) c 1 0 (rw length-replicate within)))))
-      (λ d ne. rw (is, was) (ap (λ (m : ℕ). not (m == 0)) (get_or-set_other (replicate places 0) c d 1 0 ne ∙ zero_at places d)))
+      (λ d ne. rw (is, was) (ap (λ (m : ℕ). not (m == 0)) (get_or-set_other (replicate places 0) c d 1 0 ne ∙ blank_at {X = ℕ} places d 0)))
 
   -- the set of a place has room for each slot
   pub set_within : {slab : Slab (Live V)} {held : List (List Bool)} {places : ℕ} → AreCounted slab held places → (c key : ℕ) → c < places → key < slab.capacity → (c < length held) × (key < length (flags_of held c))
@@ -248,14 +249,8 @@ module _ {V : Type 0} where
     counts = λ key o e. let n : None ≡ Some o = sym (ap (λ (s : List (Option (Live V))). get_or s key None) none) ∙ e in absurd (cc);
   }
     where
-      false_at : (n key : ℕ) → get_or (replicate n false) key false ≡ false
-      false_at n key = elim (cases_lt key n) [
-        | inl l ↦ get_or-replicate n key false false l
-        | inr g ↦ get_or_past (replicate n false) key false (rw length-replicate g)
-      ]
-
       blank : (c key : ℕ) → is_in (replicate places (replicate slab.capacity false)) c key ≡ false
       blank c key = elim (cases_lt c places) [
-        | inl l ↦ ap (λ (f : List Bool). get_or f key false) (get_or-replicate places c (replicate slab.capacity false) [] l) ∙ false_at slab.capacity key
+        | inl l ↦ ap (λ (f : List Bool). get_or f key false) (get_or-replicate places c (replicate slab.capacity false) [] l) ∙ blank_at slab.capacity key false
         | inr g ↦ ap (λ (f : List Bool). get_or f key false) (get_or_past (replicate places (replicate slab.capacity false)) c [] (rw length-replicate g))
       ]

@@ -3,7 +3,7 @@ use Rattle.std.proofs.Common.{◌≡◌, ◌≢◌, ℕ, zero, suc, ◌+◌, ◌
 use Rattle.std.specs.Prelude.{count_by, map, replicate}
 use Rattle.std.proofs.lemmas.Bool.{cases_eq, cases_lt, eq-eqb, ne_eqb}
 use Rattle.std.proofs.Math.Seq.{get_or-append_seam}
-use Rattle.std.proofs.lemmas.List.{get_or-map, get_or_append_left, get_or-set_same, get_or-set_other, get_or_past, get_or-replicate, length-replicate, map-set, set-get_or, length-map}
+use Rattle.std.proofs.lemmas.List.{get_or-map, get_or_append_left, get_or-set_same, get_or-set_other, get_or_past, map-set, set-get_or, length-map}
 use Rattle.std.proofs.lemmas.List.Sums.{sum_by-set, count_by-le-length}
 use Rattle.tm_objects.specs.Sparse.{absent, is_member, IsSparse}
 
@@ -175,7 +175,7 @@ sparse-moved front ps k last room sparse within is_in differ = record {
     short = moved_short front ps k last room sparse within is_in differ
 
 -- whether a key is a member, from its position
-pub flag_at : (ps : List ℕ) (k : ℕ) → k < length ps → get_or (map is_member ps) k false ≡ is_member (get_or ps k 0)
+flag_at : (ps : List ℕ) (k : ℕ) → k < length ps → get_or (map is_member ps) k false ≡ is_member (get_or ps k 0)
 flag_at ps k within = get_or-map is_member ps k 0 false within
 
 pub flag_in : (ps : List ℕ) (k : ℕ) → k < length ps → get_or ps k 0 ≢ absent → get_or (map is_member ps) k false ≡ true
@@ -222,19 +222,6 @@ none_in ps room sparse k = elim (cases_lt k (length ps)) [
   ]
   | inr g ↦ get_or_past (map is_member ps) k false (rw length-map g)
 ]
-
-pub sparse_none : (size room : ℕ) → size < 4294967296 → size ≤ room → IsSparse [] (replicate size absent) room
-sparse_none size room narrow fits = record {
-  narrow = rw length-replicate narrow;
-  fits = rw length-replicate fits;
-  count = none size;
-  stands = λ i h. absurd (omega arith);
-  found = λ k h ne. absurd (ne (get_or-replicate {A = ℕ} size k absent 0 (rw length-replicate at h)));
-}
-  where
-    none : (n : ℕ) → count_by is_member (replicate n absent) ≡ 0
-    none zero = refl
-    none (suc n) = none n
 
 pub flags_none : (n : ℕ) → map is_member (replicate n absent) ≡ replicate n false
 flags_none zero = refl

@@ -1,12 +1,29 @@
-use Rattle.std.proofs.Common.{◌≡◌, ℕ, ◌<◌, Vec, Global, refl, ap, ◌∙◌, arith}
+use Rattle.std.proofs.Common.{◌≡◌, ℕ, ◌<◌, length, Vec, Global, refl, ap, ◌∙◌, arith}
 use Rattle.std.specs.Prelude.{map}
 use Rattle.slab.specs.Slab.{get}
 use Rattle.tm_objects.specs.Live.{LiveList, with_holds, kept}
 use Rattle.tm_objects.specs.Listing.{if_held_beside}
 use Rattle.tm_objects.proofs.At.{live_is}
-use Rattle.tm_objects.proofs.Counted.{there_is}
-use Rattle.tm_objects.proofs.Swept.{swept_listed, swept_step}
+use Rattle.tm_objects.proofs.Counted.{there_is, less_flags}
+use Rattle.tm_objects.proofs.Swept.{swept_listed, swept_none, swept_step}
 use Rattle.tm_objects.proofs.live.LiveObjects.drop_holds.Goals as goal
+
+pub loop-key-init : goal.loop-key-init
+loop-key-init g c = record {
+  sound = c.self.invariant.0;
+  counted = c.self.invariant.1;
+  done = swept_none c.self.invariant.0 c.self.invariant.1 c.args.place;
+  fewer = omega arith;
+  given = refl;
+  most = refl;
+  places = refl;
+}
+
+pub loop-key-smaller : goal.loop-key-smaller
+loop-key-smaller g c =
+    let i = c.loop-key.invariant in
+    let within : c.args.place < length c.loop-key.self-inside.held.items = let e = ap (λ (s : LiveList g.row.V.Denot). s.places) c.self.view_is in omega (arith, e, c.requires, i.counted.sets) in
+    rw c.in-Some.ensures.taken (less_flags c.loop-key.self-inside.held.items c.args.place c.in-Some.key within c.in-Some.ensures.was)
 
 pub loop-key-preserved : goal.loop-key-preserved
 loop-key-preserved g c =
