@@ -52,7 +52,8 @@ impl<V> Model for LiveObjects<V> {
 impl<V: Drop> LiveObjects<V> {
     ghost use Rattle.tm_objects.specs.Lending.{lends_value};
 
-    /// No objects, and room for `most` with a count for each of `places`.
+    /// No objects, and room for `most` with a count for each of `places`: 12 bytes for each object and
+    /// place.
     pub fn new(alloc: Global, most: u32, places: u32) -> Result<LiveObjects<V>, AllocError>
         ensures { IfOk result (λ a. a ≡ record { most = most; places = places; given = 0; live = [] }) }
     {
@@ -103,13 +104,13 @@ impl<V: Drop> LiveObjects<V> {
         let Some(row) = self.spare.pop() else {
             unreachable!()
         };
-        self.given += 1;
-        let mut entry = Entry::new(self.given, value, row);
+        let id = next_id(&mut self.given);
+        let mut entry = Entry::new(id, value, row);
         entry.add_hold(place as usize);
         let key = self.slots.insert_reserved(entry);
         keep_key(&mut self.held, key, place as usize);
         Name {
-            id: self.given,
+            id,
             place: u32::try_from(key).unwrap_or(u32::MAX),
         }
     }
@@ -209,7 +210,8 @@ impl<V: Drop> LiveObjects<V> {
         self.slots[key].value_mut()
     }
 
-    /// Takes all holds of a place away, and drops the values on which no hold is left. How many.
+    /// Takes all holds of a place away, in time of how many objects it holds, and drops the values on
+    /// which no hold is left. How many.
     pub fn drop_holds(&mut self, place: u32) -> u32
         requires { place < self.old.places }
         ensures count { result + length self.new.live ≡ length self.old.live }
@@ -221,4 +223,14 @@ impl<V: Drop> LiveObjects<V> {
         }
         (self.spare.len() - before) as u32
     }
+}
+
+// Gives out an id that was never given out.
+fn next_id(given: &mut u64) -> u64
+    requires { given.old < 18446744073709551615 }
+    ensures given { given.new ≡ given.old + 1 }
+    ensures id { result ≡ given.old + 1 }
+{
+    *given += 1;
+    *given
 }
