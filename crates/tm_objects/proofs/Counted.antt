@@ -11,36 +11,23 @@ use Rattle.slab.proofs.SlabLemmas.{Updates-with_value}
 use Rattle.tm_objects.proofs.At.{one_hold}
 use Rattle.tm_objects.specs.Live.{Live, total, holds_of, with_holds, is_held, first_held}
 use Rattle.tm_objects.specs.Listing.{if_held, Settles}
-use Rattle.tm_objects.specs.Counted.{flags_of, is_in, has_hold, AreCounted}
+use Rattle.tm_objects.specs.Counted.{flags_of, is_in, with_flag, has_hold, AreCounted}
 use Rattle.tm_objects.proofs.Sound.{zero_counts, updates_after}
 
--- the flag of a key after one of a place is written
-is_in-set : (held : List (List Bool)) (c key d l : ℕ) (b : Bool) → c < length held → key < length (flags_of held c) → (d ≢ c → b ≡ is_in held d l) → (d ≡ c → l ≢ key → b ≡ is_in held d l) → (x : Bool) → (d ≡ c → l ≡ key → b ≡ x) → is_in (set held c (set (flags_of held c) key x)) d l ≡ b
-is_in-set held c key d l b within inside other beside x here = elim (cases_eq d c) [
-  | inl dc ↦
-      let at : flags_of (set held c (set (flags_of held c) key x)) d ≡ set (flags_of held c) key x =
-      ap (λ e. flags_of (set held c (set (flags_of held c) key x)) e) dc ∙ get_or-set_same held c (set (flags_of held c) key x) [] within in
-      elim (cases_eq l key) [
-        | inl lk ↦
-            ap (λ f. get_or f l false) at ∙ (ap (λ m. get_or (set (flags_of held c) key x) m false) lk ∙ (get_or-set_same (flags_of held c) key x false inside ∙ sym (here dc lk)))
-        | inr ne ↦
-            ap (λ f. get_or f l false) at ∙ (get_or-set_other (flags_of held c) key l x false ne ∙ (ap (λ e. is_in held e l) (sym dc) ∙ sym (beside dc ne)))
-      ]
-  | inr ne ↦
-      ap (λ f. get_or f l false) (get_or-set_other held c d (set (flags_of held c) key x) [] ne) ∙ sym (other ne)
-]
+-- a flag of a place is written, and no other changes
+pub flag_here : (held : List (List Bool)) (c key : ℕ) (b : Bool) → c < length held → key < length (flags_of held c) → is_in (with_flag c key b held) c key ≡ b
+flag_here held c key b within inside =
+    ap (λ (f : List Bool). get_or f key false) (get_or-set_same held c (set (flags_of held c) key b) [] within) ∙ get_or-set_same (flags_of held c) key b false inside
 
--- the key of a place goes, and no other
-pub less_in : (held : List (List Bool)) (c key : ℕ) → c < length held → key < length (flags_of held c) → is_in (set held c (set (flags_of held c) key false)) c key ≡ false
-less_in held c key within inside =
-    ap (λ (f : List Bool). get_or f key false) (get_or-set_same held c (set (flags_of held c) key false) [] within) ∙ get_or-set_same (flags_of held c) key false false inside
+pub flag_beside : (held : List (List Bool)) (c key j : ℕ) (b : Bool) → c < length held → j ≢ key → is_in (with_flag c key b held) c j ≡ is_in held c j
+flag_beside held c key j b within ne =
+    ap (λ (f : List Bool). get_or f j false) (get_or-set_same held c (set (flags_of held c) key b) [] within) ∙ get_or-set_other (flags_of held c) key j b false ne
 
-pub less_others : (held : List (List Bool)) (c key j : ℕ) → c < length held → j ≢ key → is_in (set held c (set (flags_of held c) key false)) c j ≡ is_in held c j
-less_others held c key j within ne =
-    ap (λ (f : List Bool). get_or f j false) (get_or-set_same held c (set (flags_of held c) key false) [] within) ∙ get_or-set_other (flags_of held c) key j false false ne
+flag_elsewhere : (held : List (List Bool)) (c key d j : ℕ) (b : Bool) → d ≢ c → is_in (with_flag c key b held) d j ≡ is_in held d j
+flag_elsewhere held c key d j b ne = ap (λ (f : List Bool). get_or f j false) (get_or-set_other held c d (set (flags_of held c) key b) [] ne)
 
 -- so one flag less is set
-pub less_flags : (held : List (List Bool)) (c key : ℕ) → c < length held → is_in held c key ≡ true → count_by (λ b. b) (flags_of (set held c (set (flags_of held c) key false)) c) < count_by (λ b. b) (flags_of held c)
+pub less_flags : (held : List (List Bool)) (c key : ℕ) → c < length held → is_in held c key ≡ true → count_by (λ b. b) (flags_of (with_flag c key false held) c) < count_by (λ b. b) (flags_of held c)
 less_flags held c key within was =
     let inside : key < length (flags_of held c) = elim (cases_lt key (length (flags_of held c))) [
       | inl l ↦ l
@@ -115,24 +102,36 @@ module _ {V : Type 0} where
     -- one slot changes, and with it the hold of one place
     counted_change :
         (c : ℕ) (b : Bool) → c < places → key < slab.capacity → b ≡ has_hold slot c → ((d : ℕ) → d ≢ c → has_hold slot d ≡ has_hold (get slab key) d)
-        → AreCounted new (set held c (set (flags_of held c) key b)) places
+        → AreCounted new (with_flag c key b held) places
     counted_change c b within inside here same = record {
       sets = length-set held c (set (flags_of held c) key b) ∙ counted.sets;
       sizes = rw capacity (All-set (λ f. length f ≡ slab.capacity) held c (set (flags_of held c) key b) (length-set (flags_of held c) key b ∙ wide) counted.sizes);
-      members = λ d l. is_in-set held c key d l (has_hold (get new l) d) (omega (arith, counted.sets, within)) (omega (arith, wide, inside))
-          (λ ne. elim (cases_eq l key) [
-            | inl lk ↦ ap (λ m. has_hold (get new m) d) lk ∙ (ap (λ x. has_hold x d) updates.changed ∙ (same d ne ∙ (ap (λ m. has_hold (get slab m) d) (sym lk) ∙ sym (counted.members d l))))
-            | inr nl ↦ ap (λ x. has_hold x d) (updates.others l nl) ∙ sym (counted.members d l)
-          ])
-          (λ dc nl. ap (λ x. has_hold x d) (updates.others l nl) ∙ sym (counted.members d l))
-          b
-          (λ dc lk. ap (λ m. has_hold (get new m) d) lk ∙ (ap (λ x. has_hold x d) updates.changed ∙ (ap (λ e. has_hold slot e) dc ∙ sym here)));
+      members = λ d l. elim (cases_eq l key) [
+        | inl lk ↦ ap (λ m. is_in (with_flag c key b held) d m) lk ∙ (at_key d ∙ ap (λ m. has_hold (get new m) d) (sym lk))
+        | inr nl ↦ beside d l nl ∙ (counted.members d l ∙ ap (λ x. has_hold x d) (sym (updates.others l nl)))
+      ];
       within = within_new;
       counts = counts_new;
     }
       where
         wide : length (flags_of held c) ≡ slab.capacity
         wide = All-get_or (λ f. length f ≡ slab.capacity) held c [] (omega (arith, counted.sets, within)) counted.sizes
+
+        there : c < length held
+        there = omega (arith, counted.sets, within)
+
+        beside : (d l : ℕ) → l ≢ key → is_in (with_flag c key b held) d l ≡ is_in held d l
+        beside d l nl = elim (cases_eq d c) [
+          | inl dc ↦ ap (λ e. is_in (with_flag c key b held) e l) dc ∙ (flag_beside held c key l b there nl ∙ ap (λ e. is_in held e l) (sym dc))
+          | inr nd ↦ flag_elsewhere held c key d l b nd
+        ]
+
+        at_key : (d : ℕ) → is_in (with_flag c key b held) d key ≡ has_hold (get new key) d
+        at_key d = rw updates.changed
+            (elim (cases_eq d c) [
+              | inl dc ↦ ap (λ e. is_in (with_flag c key b held) e key) dc ∙ (flag_here held c key b there (omega (arith, wide, inside)) ∙ (here ∙ ap (λ e. has_hold slot e) (sym dc)))
+              | inr nd ↦ flag_elsewhere held c key d key b nd ∙ (counted.members d key ∙ sym (same d nd))
+            ])
 
   -- an object is written that has the same counts
   pub counted_write :
@@ -185,7 +184,7 @@ module _ {V : Type 0} where
     -- a hold of a place is written
     pub counted_hold :
         (p : Live V) (n : ℕ) (b : Bool) → p ≡ with_holds c n o → n < 4294967296 → b ≡ has_hold (Some p) c
-        → AreCounted (with_value slab key p) (set held c (set (flags_of held c) key b)) places
+        → AreCounted (with_value slab key p) (with_flag c key b held) places
     counted_hold p n b is small here =
         counted_change counted key (Some p) (Updates-with_value slab key p (rw there refl)) refl
         (λ q e. let s : p ≡ q = cc in (counted.within key o there, rw (sym s) (counts_set p n is small)))
@@ -194,7 +193,7 @@ module _ {V : Type 0} where
     -- a hold of a place is written on an object, which has gone on or gone
     pub counted_settle :
         {new : Slab (Live V)} {rows more : List (List ℕ)} (p : Live V) (n : ℕ) (b : Bool) → p ≡ with_holds c n o → n < 4294967296 → b ≡ has_hold (Some p) c
-        → Settles (with_value slab key p) new rows more key p → AreCounted new (set held c (set (flags_of held c) key b)) places
+        → Settles (with_value slab key p) new rows more key p → AreCounted new (with_flag c key b held) places
     counted_settle {new} p n b is small here settles =
         counted_change counted key (if_held p) (updates_after slab new key o p (if_held p) there settles.updates) settles.capacity
         (λ q e. let s = held_same p q e in (counted.within key o there, rw (sym s) (counts_set p n is small)))
@@ -203,7 +202,7 @@ module _ {V : Type 0} where
     -- an object has gone that a place held once and nothing else
     pub counted_less :
         (new : Slab (Live V)) → Updates slab new key None → new.capacity ≡ slab.capacity → total o ≡ 1 → 1 ≤ holds_of o c → length o.holds ≡ places
-        → AreCounted new (set held c (set (flags_of held c) key false)) places
+        → AreCounted new (with_flag c key false held) places
     counted_less new updates capacity one has wide =
         counted_change counted key None updates capacity (λ q e. absurd (cc)) c false within (counted.within key o there) refl
         (λ d ne. rw there (ap (λ (m : ℕ). not (m == 0)) (sym (none_else d ne))))
@@ -217,7 +216,7 @@ module _ {V : Type 0} where
   pub counted_add :
       {slab new : Slab (Live V)} {held : List (List Bool)} {places : ℕ} → AreCounted slab held places → (key c id : ℕ) (v : V) (o : Live V) → get slab key ≡ None
       → Updates slab new key (Some o) → new.capacity ≡ slab.capacity → key < new.capacity → c < places → o ≡ first_held id v places c
-      → AreCounted new (set held c (set (flags_of held c) key true)) places
+      → AreCounted new (with_flag c key true held) places
   counted_add {slab} {new} {held} {places} counted key c id v o was updates capacity inside within is =
       counted_change counted key (Some o) updates capacity
       (λ q e. let s : o ≡ q = cc in (omega (arith, capacity, inside), rw (sym s, is) (All-set (λ n. n < 4294967296) (replicate places 0) c 1 (lit< tt) (All-replicate (λ n. n < 4294967296) places 0 (lit< tt)))))

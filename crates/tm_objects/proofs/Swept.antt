@@ -6,11 +6,11 @@ use Rattle.std.proofs.lemmas.List.{set-get_or}
 use Rattle.slab.specs.Slab.{Slab, get, slab_len, with_value, Updates}
 use Rattle.tm_objects.specs.Live.{Live, total, holds_of, is_held, with_holds, kept}
 use Rattle.tm_objects.specs.Listing.{seek, listed, AreApart, IsSound, if_held, if_held_beside, Settles}
-use Rattle.tm_objects.specs.Counted.{flags_of, is_in, has_hold, AreCounted}
+use Rattle.tm_objects.specs.Counted.{is_in, with_flag, has_hold, AreCounted}
 use Rattle.tm_objects.proofs.Lists.{kept_if, map-listed, filter-listed}
 use Rattle.tm_objects.proofs.Seeks.{seek-found, seek-slot, seek-absent}
 use Rattle.tm_objects.proofs.Sound.{if_held-is, sound_settle, updates_after, len-with_value}
-use Rattle.tm_objects.proofs.Counted.{less_in, less_others, hold_set, place_within, key_within, counted_settle}
+use Rattle.tm_objects.proofs.Counted.{flag_here, flag_beside, hold_set, place_within, key_within, counted_settle}
 
 module _ {V : Type 0} where
   -- what a slot has when a place has gone, unless the place is yet to go from it
@@ -79,18 +79,18 @@ module _ {V : Type 0} where
       {slab : Slab (Live V)} {held : List (List Bool)} {rows : List (List ℕ)} {room given most places : ℕ} (sound : IsSound slab rows room given most places) (counted : AreCounted slab held places)
       (first new : Slab (Live V)) (more : List (List ℕ)) (c key : ℕ) (o : Live V) → c < places → get slab key ≡ Some o → is_in held c key ≡ true
       → ((j : ℕ) → get slab j ≡ beside_past c (is_in held c j) (get first j)) → Settles (with_value slab key (with_holds c 0 o)) new rows more key (with_holds c 0 o)
-      → IsSound new more room given most places × AreCounted new (set held c (set (flags_of held c) key false)) places
-      × ((j : ℕ) → get new j ≡ beside_past c (is_in (set held c (set (flags_of held c) key false)) c j) (get first j)) × (slab_len new ≤ slab_len slab)
+      → IsSound new more room given most places × AreCounted new (with_flag c key false held) places
+      × ((j : ℕ) → get new j ≡ beside_past c (is_in (with_flag c key false held) c j) (get first j)) × (slab_len new ≤ slab_len slab)
   swept_step {slab} {held} {rows} {room} {given} {most} {places} sound counted first new more c key o within there was done settles = (
     sound_settle slab new rows more room given most places sound key o (with_holds c 0 o) there refl (length-set o.holds c 0 ∙ wide) settles,
     counted_settle counted key o there c within (with_holds c 0 o) 0 false refl (lit< tt) (sym (hold_set o c 0 (omega (arith, wide, within)))) settles,
     λ j. elim (cases_eq j key) [
       | inl jk ↦
-          let gone : is_in (set held c (set (flags_of held c) key false)) c j ≡ false = ap (λ l. is_in (set held c (set (flags_of held c) key false)) c l) jk ∙ less_in held c key (place_within counted key o there c within) (key_within counted key o there c within) in
+          let gone : is_in (with_flag c key false held) c j ≡ false = ap (λ l. is_in (with_flag c key false held) c l) jk ∙ flag_here held c key false (place_within counted key o there c within) (key_within counted key o there c within) in
           let here : get first key ≡ Some o = sym (done key ∙ rw was refl) ∙ there in
           ap (get new) jk ∙ (u.changed ∙ rw (gone, jk, here) refl)
       | inr ne ↦
-          let yet : is_in (set held c (set (flags_of held c) key false)) c j ≡ is_in held c j = less_others held c key j (place_within counted key o there c within) ne in
+          let yet : is_in (with_flag c key false held) c j ≡ is_in held c j = flag_beside held c key j false (place_within counted key o there c within) ne in
           u.others j ne ∙ (done j ∙ rw yet refl)
     ],
     omega (arith, settles.len, len-with_value slab key o (with_holds c 0 o) there),

@@ -1,5 +1,5 @@
 -- Which slots have objects that a place holds.
-use Rattle.std.specs.Prelude.{◌≡◌, ℕ, ◌<◌, ◌==◌, Bool, false, not, List, [], length, slice_index_or, Option, Some, All}
+use Rattle.std.specs.Prelude.{◌≡◌, ℕ, ◌<◌, ◌==◌, Bool, false, not, List, [], length, slice_index_or, slice_set, Option, Some, All}
 use Rattle.slab.specs.Slab.{Slab, get}
 use Rattle.tm_objects.specs.Live.{Live, count_in}
 
@@ -10,6 +10,10 @@ flags_of held c = slice_index_or held c []
 -- whether the set of a place has a slot
 abbrev pub is_in : List (List Bool) → ℕ → ℕ → Bool
 is_in held c key = slice_index_or (flags_of held c) key false
+
+-- the sets with one flag of a place written
+abbrev pub with_flag : ℕ → ℕ → Bool → List (List Bool) → List (List Bool)
+with_flag c key b held = slice_set held c (slice_set (flags_of held c) key b)
 
 module _ {V : Type 0} where
   -- whether a place has a hold on what a slot has

@@ -1,7 +1,7 @@
 //! For each place the keys of the objects that it holds.
-ghost use Rattle.std.specs.Prelude.{◌≡◌, ℕ, ◌<◌, true, false, length, replicate, slice_set, IfOk, IfSome, IfNone, IsSomeAnd};
+ghost use Rattle.std.specs.Prelude.{◌≡◌, ℕ, ◌<◌, true, false, length, replicate, IfOk, IfSome, IfNone, IsSomeAnd};
 ghost use Rattle.slab.specs.Slab.{get};
-ghost use Rattle.tm_objects.specs.Counted.{flags_of, is_in, has_hold};
+ghost use Rattle.tm_objects.specs.Counted.{flags_of, is_in, with_flag, has_hold};
 
 use crate::entry::Entry;
 use crate::keys::KeySet;
@@ -26,7 +26,7 @@ pub fn empty_sets(alloc: Global, places: u32, bound: usize) -> Result<Vec<KeySet
 pub fn keep_key(held: &mut Vec<KeySet>, key: usize, place: usize)
     requires place { place < length held.old.items }
     requires key { key < length (flags_of held.old.items place) }
-    ensures { held.new.items ≡ slice_set held.old.items place (slice_set (flags_of held.old.items place) key true) }
+    ensures { held.new.items ≡ with_flag place key true held.old.items }
 {
     held[place].insert(key);
 }
@@ -35,7 +35,7 @@ pub fn keep_key(held: &mut Vec<KeySet>, key: usize, place: usize)
 pub fn forget_key(held: &mut Vec<KeySet>, key: usize, place: usize)
     requires place { place < length held.old.items }
     requires key { key < length (flags_of held.old.items place) }
-    ensures { held.new.items ≡ slice_set held.old.items place (slice_set (flags_of held.old.items place) key false) }
+    ensures { held.new.items ≡ with_flag place key false held.old.items }
 {
     held[place].remove(key);
 }
@@ -44,7 +44,7 @@ pub fn forget_key(held: &mut Vec<KeySet>, key: usize, place: usize)
 pub fn pop_key(held: &mut Vec<KeySet>, place: usize) -> Option<usize>
     requires { place < length held.old.items }
     ensures was { IfSome result (λ key. is_in held.old.items place key ≡ true) }
-    ensures taken { IfSome result (λ key. held.new.items ≡ slice_set held.old.items place (slice_set (flags_of held.old.items place) key false)) }
+    ensures taken { IfSome result (λ key. held.new.items ≡ with_flag place key false held.old.items) }
     ensures none { IfNone result ((key : ℕ) → is_in held.old.items place key ≡ false) }
     ensures stays { IfNone result (held.new.items ≡ held.old.items) }
 {
@@ -56,7 +56,7 @@ pub fn note_hold<V>(slots: &Slab<Entry<V>>, held: &mut Vec<KeySet>, key: usize, 
     requires place { place < length held.old.items }
     requires key { key < length (flags_of held.old.items place) }
     requires there { IsSomeAnd (get slots.now key) (λ o. place < length o.holds) }
-    ensures { held.new.items ≡ slice_set held.old.items place (slice_set (flags_of held.old.items place) key (has_hold (get slots.now key) place)) }
+    ensures { held.new.items ≡ with_flag place key (has_hold (get slots.now key) place) held.old.items }
 {
     if slots[key].count(place) > 0 {
         keep_key(held, key, place);
