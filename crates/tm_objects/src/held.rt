@@ -8,7 +8,8 @@ use crate::keys::KeySet;
 use slab::Slab;
 use std::alloc::{AllocError, Global};
 
-/// No key for each place, of those below a bound. A bound past 32 bits has no room.
+/// An empty set for each place, of the keys below a bound. It fails where the bound needs more than
+/// 32 bits, as where there is no memory.
 pub fn empty_sets(alloc: Global, places: u32, bound: usize) -> Result<Vec<KeySet>, AllocError>
     ensures { IfOk result (λ held. held.items ≡ replicate places (replicate bound false)) }
 {

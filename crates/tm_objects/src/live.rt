@@ -70,8 +70,8 @@ impl<V: Drop> LiveObjects<V> {
         })
     }
 
-    /// At most `most` objects are live, and they have rising ids, a count for each place, and a hold
-    /// or a launch. Nothing runs.
+    /// At most `most` objects are live, and they have rising ids, a count of 32 bits for each place,
+    /// and a hold or a launch. Nothing runs.
     pub fn known(&self)
         ensures { IsRising self.now }
     {
