@@ -1,15 +1,15 @@
 -- Lemmas on a state and the stock that it has.
-use Rattle.std.proofs.Common.{◌≡◌, ℕ, ◌+◌, ◌-◌, Bool, true, false, cond, not, List, [], ◌∷◌, ◌++◌, length, get_or, set, refl, sym, ap, ◌∙◌, arith, length-append}
+use Rattle.std.proofs.Common.{◌≡◌, ℕ, ◌+◌, ◌-◌, Bool, true, false, cond, not, zero, suc, List, [], ◌∷◌, ◌++◌, length, get_or, set, drop, refl, sym, ap, ◌∙◌, arith, length-append}
 use Rattle.std.specs.Prelude.{map, filter, replicate, ◌==◌}
 use Rattle.std.proofs.Math.ListN.{get_or-map}
-use Rattle.std.proofs.lemmas.List.{map-append, map-set, length-map}
+use Rattle.std.proofs.lemmas.List.{map-append, map-set, length-map, set-get_or, drop-drop}
 use Rattle.tm_seq.specs.declared.kind.Next.TheVariants.{Done}
 use Rattle.tm_batch.specs.declared.message.Name.{Name}
 use Rattle.tm_model.specs.State.{Work, Object, Place, State, no_place, place_of}
 use Rattle.tm_model.specs.State as state
 use Rattle.tm_model.specs.Serve.{works_resumed}
 use Rattle.tm_objects.specs.Live.{Live, is_held, change, kept, with_holds, holds_of, with_launches, with_value}
-use Rattle.tm_objects.specs.Standing.{live_of, stock_of, EntrustsAlike, GrantsAlike, ReleasesAlike, ReclaimsAlike, ClosesAlike, LaunchesAlike, FinishesAlike, ChangesAlike}
+use Rattle.tm_objects.specs.Standing.{live_of, stock_of, EntrustsAlike, GrantsAlike, ReleasesAlike, ReclaimsAlike, ClosesAlike, LaunchesAlike, FinishesAlike, ChangesAlike, SendsAlike, TakesNone, TakesOneMore}
 
 module _ {V T : Type 0} where
   -- a change of an object that is seen as one of the live object
@@ -103,3 +103,21 @@ module _ (V O R T : Type 0) where
   changes_alike id v s =
       ap (λ (l : List (Live V)). record (stock_of s) { live = l })
       (change_alike id _ (λ o. with_value v o) (λ o. refl) s.live)
+
+  pub sends_alike : SendsAlike V O R T
+  sends_alike c room s =
+      ap (λ (g : List (List Name)). record (stock_of s) { gifts = g })
+      (places_alike c _ s.places ∙ ap (λ (g : List Name). set (map (λ (q : Place V O R T). q.gifts) s.places) c (drop room g)) (sym (gifts_alike c s)))
+
+-- a list of lists, of one of which one more is left out
+drop_once-set : {X : Type 0} (xs : List (List X)) (i n : ℕ) → set xs i (drop (n + 1) (get_or xs i [])) ≡ set (set xs i (drop n (get_or xs i []))) i (drop 1 (get_or (set xs i (drop n (get_or xs i []))) i []))
+drop_once-set [] i n = refl
+drop_once-set (x ∷ xs) zero n = ap (λ ys. ys ∷ xs) (sym (drop-drop 1 n x))
+drop_once-set (x ∷ xs) (suc i) n = ap (λ ys. x ∷ ys) (drop_once-set xs i n)
+
+module _ (V : Type 0) where
+  pub takes_none : TakesNone V
+  takes_none c s = ap (λ (g : List (List Name)). record s { gifts = g }) (set-get_or s.gifts c [])
+
+  pub takes_one_more : TakesOneMore V
+  takes_one_more c n s = ap (λ (g : List (List Name)). record s { gifts = g }) (drop_once-set s.gifts c n)

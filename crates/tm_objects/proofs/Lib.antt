@@ -6,3 +6,5 @@ pub mod Swept
 pub mod Queues
 pub mod Alike
 pub mod Rising
+pub mod Sparse
+pub mod Counted

@@ -1,5 +1,5 @@
 -- Lemmas on queues, one for each place.
-use Rattle.std.proofs.Common.{◌≡◌, ℕ, ◌+◌, ◌<◌, List, [], ◌∷◌, ◌++◌, length, get_or, set, Result, Ok, Err, refl, sym, ap, ◌∙◌}
+use Rattle.std.proofs.Common.{◌≡◌, ℕ, ◌+◌, ◌<◌, ◌≤◌, List, [], ◌∷◌, ◌++◌, length, get_or, set, Result, Ok, Err, refl, sym, ap, ◌∙◌}
 use Rattle.std.specs.Prelude.{map, replicate, All, IsOk, OnOk}
 use Rattle.std.proofs.lemmas.List.{map-append, map-set, get_or-map, length-map, replicate-append-replicate}
 use Rattle.std.proofs.lemmas.List.Elements.{All-set, All-push, All-get_or}
@@ -37,3 +37,10 @@ module _ {X : Type 0} where
   waiting-push qs n h =
       map-append (λ (q : Buffer X). q.items) qs (buffer [] 1024 ∷ [])
       ∙ (ap (λ (xs : List (List X)). xs ++ [] ∷ []) h ∙ replicate-append-replicate {A = List X} n 1 [])
+
+  -- no more than 1,024 wait after a queue is written in which no more do
+  pub few-set : (qs : List (Buffer X)) (i : ℕ) (b : Buffer X) → length b.items ≤ 1024 → All (λ q. length q ≤ 1024) (map (λ q. q.items) qs) → All (λ q. length q ≤ 1024) (map (λ q. q.items) (set qs i b))
+  few-set qs i b h all = rw (map-set (λ (q : Buffer X). q.items) qs i b) (All-set (λ q. length q ≤ 1024) (map (λ q. q.items) qs) i b.items h all)
+
+  pub few_at : (qs : List (Buffer X)) (i : ℕ) → i < length qs → All (λ q. length q ≤ 1024) (map (λ q. q.items) qs) → length (get_or (map (λ q. q.items) qs) i []) ≤ 1024
+  few_at qs i within all = All-get_or (λ q. length q ≤ 1024) (map (λ (q : Buffer X). q.items) qs) i [] (rw length-map within) all

@@ -1,5 +1,5 @@
 -- Lemmas on all objects of a list by ids.
-use Rattle.std.proofs.Common.{◌≡◌, ℕ, zero, suc, ◌<◌, ◌≤◌, List, [], ◌++◌, length, Option, Some, None, refl, arith}
+use Rattle.std.proofs.Common.{◌≡◌, ℕ, zero, suc, ◌<◌, ◌≤◌, Bool, List, [], ◌++◌, length, Option, Some, None, refl, arith}
 use Rattle.std.specs.Prelude.{All, option_to_list}
 use Rattle.std.specs.List.{AllPairs}
 use Rattle.std.proofs.lemmas.List.{append-nil}
@@ -8,6 +8,7 @@ use Rattle.std.proofs.lemmas.List.Quantifiers.{all_pairs_push}
 use Rattle.slab.specs.Slab.{Slab}
 use Rattle.tm_objects.specs.Live.{Live, total}
 use Rattle.tm_objects.specs.Listing.{seek, listed, IsSound}
+use Rattle.tm_objects.specs.Counted.{AreCounted}
 use Rattle.tm_objects.specs.Rising.{IsRising}
 use Rattle.tm_objects.proofs.Lists.{AreNamed}
 use Rattle.tm_objects.proofs.Seeks.{seek-slot}
@@ -44,12 +45,13 @@ module _ {V : Type 0} where
 
   -- the list of sound slots is that of live objects
   pub rising_sound :
-      {slab : Slab (Live V)} {rows : List (List ℕ)} {room given most places : ℕ} → IsSound slab rows room given most places
+      {slab : Slab (Live V)} {held : List (List Bool)} {rows : List (List ℕ)} {room given most places : ℕ} → IsSound slab rows room given most places → AreCounted slab held places
       → IsRising (record { most = most; places = places; given = given; live = listed (seek slab.slots) given })
-  rising_sound {slab} {rows} {room} {given} {most} {places} sound = record {
+  rising_sound {slab} {held} {rows} {room} {given} {most} {places} sound counted = record {
     most = omega (arith, sound.count, sound.whole);
     ids = all_listed (seek slab.slots) (λ o. (0 < o.id) × (o.id ≤ given)) (λ i o e. let s = seek-slot slab.slots i o e in let t = sound.standing s.0 o s.1 in (t.positive, t.upto)) given;
     rising = rising_listed (seek slab.slots) (named slab.slots) given;
     width = all_listed (seek slab.slots) (λ o. length o.holds ≡ places) (λ i o e. let s = seek-slot slab.slots i o e in (sound.standing s.0 o s.1).width) given;
     held = all_listed (seek slab.slots) (λ o. 0 < total o) (λ i o e. let s = seek-slot slab.slots i o e in (sound.standing s.0 o s.1).held) given;
+    counts = all_listed (seek slab.slots) (λ o. All (λ n. n < 4294967296) o.holds) (λ i o e. let s = seek-slot slab.slots i o e in counted.counts s.0 o s.1) given;
   }

@@ -1,19 +1,21 @@
 -- Lemmas on slots from which a place has gone.
-use Rattle.std.proofs.Common.{◌≡◌, ◌≢◌, ℕ, ◌+◌, ◌≤◌, Bool, true, false, cond, List, length, Option, Some, None, refl, sym, ap, ◌∙◌, inl, inr, arith, length-set}
-use Rattle.std.specs.Prelude.{map, nat_lt, option_map, IfSome, IfNone}
-use Rattle.std.proofs.lemmas.Bool.{cases_eq, cases_lt, lt-ltb, le-ltb}
-use Rattle.std.proofs.lemmas.List.{get_or_past}
-use Rattle.slab.specs.Slab.{Slab, get, slab_len, with_value}
-use Rattle.tm_objects.specs.Live.{Live, is_held, with_holds, kept}
+use Rattle.std.proofs.Common.{◌≡◌, ℕ, ◌<◌, ◌≤◌, Bool, true, false, cond, List, length, set, Option, Some, None, refl, sym, ap, ◌∙◌, inl, inr, arith, lit<, length-set}
+use Rattle.std.specs.Prelude.{map, option_map}
+use Rattle.std.proofs.lemmas.Bool.{cases_eq, ne_eqb}
+use Rattle.std.proofs.lemmas.List.{set-get_or}
+use Rattle.slab.specs.Slab.{Slab, get, slab_len, with_value, Updates}
+use Rattle.tm_objects.specs.Live.{Live, total, holds_of, is_held, with_holds, kept}
 use Rattle.tm_objects.specs.Listing.{seek, listed, AreApart, IsSound, if_held, if_held_beside, Settles}
+use Rattle.tm_objects.specs.Counted.{is_in, with_flag, has_hold, AreCounted}
 use Rattle.tm_objects.proofs.Lists.{kept_if, map-listed, filter-listed}
 use Rattle.tm_objects.proofs.Seeks.{seek-found, seek-slot, seek-absent}
 use Rattle.tm_objects.proofs.Sound.{if_held-is, sound_settle, updates_after, len-with_value}
+use Rattle.tm_objects.proofs.Counted.{flag_here, flag_beside, hold_set, place_within, key_within, counted_settle}
 
 module _ {V : Type 0} where
-  -- what a slot has when a place has gone from the slots below a key
-  abbrev pub beside_below : ℕ → ℕ → ℕ → Option (Live V) → Option (Live V)
-  beside_below c n j x = cond (nat_lt j n) (if_held_beside c x) x
+  -- what a slot has when a place has gone, unless the place is yet to go from it
+  abbrev pub beside_past : ℕ → Bool → Option (Live V) → Option (Live V)
+  beside_past c yet x = cond yet x (if_held_beside c x)
 
   beside-is : (c : ℕ) (x : Option (Live V)) (q : Live V) → if_held_beside c x ≡ Some q → (o : Live V) × (x ≡ Some o) × (q.id ≡ o.id)
   beside-is c None q h = absurd (cc)
@@ -53,55 +55,49 @@ module _ {V : Type 0} where
           let n : None ≡ Some b.0 = sym e ∙ f in cc))
       by i (Some o) e = let s = seek-slot old.slots i o e in rw e (going i s.0 o s.1 s.2 (is_held (with_holds c 0 o)) refl)
 
-  -- a place has gone from all slots once it has from those below a key past them
-  pub swept_all :
-      (old new : Slab (Live V)) (c k : ℕ) → length old.slots ≤ k → ((j : ℕ) → get new j ≡ beside_below c k j (get old j))
-      → (j : ℕ) → get new j ≡ if_held_beside c (get old j)
-  swept_all old new c k past h j = elim (cases_lt j k) [
-    | inl l ↦ h j ∙ rw (lt-ltb j k l) refl
-    | inr g ↦ let none : get old j ≡ None = get_or_past old.slots j None (omega arith) in h j ∙ rw (le-ltb j k g, none) refl
-  ]
+  -- a place leaves a slot on which it has no hold
+  beside_none : (c : ℕ) (x : Option (Live V)) → has_hold x c ≡ false → ((o : Live V) → x ≡ Some o → 0 < total o) → x ≡ if_held_beside c x
+  beside_none c None e held = refl
+  beside_none c (Some o) e held =
+      let z : holds_of o c ≡ 0 = elim (cases_eq (holds_of o c) 0) [ inl z ↦ z | inr n ↦ absurd (let t : true ≡ false = rw (ne_eqb (holds_of o c) 0 n) at e in cc) ] in
+      let same : with_holds c 0 o ≡ o = ap (λ (l : List ℕ). record o { holds = l }) (ap (λ (n : ℕ). set o.holds c n) (sym z) ∙ set-get_or o.holds c 0) in
+      let on : if_held o ≡ Some o = rw (ne_eqb (total o) 0 (λ e. let h = held o refl in omega arith)) refl in
+      sym (ap (λ (p : Live V). if_held p) same ∙ on)
+
+  -- before a place goes from any slot it is yet to go from those that it holds
+  pub swept_none :
+      {slab : Slab (Live V)} {held : List (List Bool)} {rows : List (List ℕ)} {room given most places : ℕ} → IsSound slab rows room given most places → AreCounted slab held places
+      → (c j : ℕ) → get slab j ≡ beside_past c (is_in held c j) (get slab j)
+  swept_none {slab} {held} sound counted c j = by (is_in held c j) refl
+    where
+      by : (b : Bool) → is_in held c j ≡ b → get slab j ≡ beside_past c (is_in held c j) (get slab j)
+      by true e = rw e refl
+      by false e = rw e (beside_none c (get slab j) (sym (counted.members c j) ∙ e) (λ o there. (sound.standing j o there).held))
 
   -- a place goes from one slot more
   pub swept_step :
-      {slab : Slab (Live V)} {rows : List (List ℕ)} {room given most places : ℕ} (sound : IsSound slab rows room given most places)
-      (first new : Slab (Live V)) (more : List (List ℕ)) (c k : ℕ) → ((j : ℕ) → get slab j ≡ beside_below c k j (get first j))
-      → IfSome (get slab k) (λ o. Settles (with_value slab k (with_holds c 0 o)) new rows more k (with_holds c 0 o))
-      → IfNone (get slab k) ((new ≡ slab) × (more ≡ rows))
-      → IsSound new more room given most places × ((j : ℕ) → get new j ≡ beside_below c (k + 1) j (get first j)) × (new.capacity ≡ slab.capacity) × (slab_len new ≤ slab_len slab)
-  swept_step {slab} {rows} {room} {given} {most} {places} sound first new more c k done some none = by (get slab k) refl
+      {slab : Slab (Live V)} {held : List (List Bool)} {rows : List (List ℕ)} {room given most places : ℕ} (sound : IsSound slab rows room given most places) (counted : AreCounted slab held places)
+      (first new : Slab (Live V)) (more : List (List ℕ)) (c key : ℕ) (o : Live V) → c < places → get slab key ≡ Some o → is_in held c key ≡ true
+      → ((j : ℕ) → get slab j ≡ beside_past c (is_in held c j) (get first j)) → Settles (with_value slab key (with_holds c 0 o)) new rows more key (with_holds c 0 o)
+      → IsSound new more room given most places × AreCounted new (with_flag c key false held) places
+      × ((j : ℕ) → get new j ≡ beside_past c (is_in (with_flag c key false held) c j) (get first j)) × (slab_len new ≤ slab_len slab)
+  swept_step {slab} {held} {rows} {room} {given} {most} {places} sound counted first new more c key o within there was done settles = (
+    sound_settle slab new rows more room given most places sound key o (with_holds c 0 o) there refl (length-set o.holds c 0 ∙ wide) settles,
+    counted_settle counted key o there c within (with_holds c 0 o) 0 false refl (lit< tt) (sym (hold_set o c 0 (omega (arith, wide, within)))) settles,
+    λ j. elim (cases_eq j key) [
+      | inl jk ↦
+          let gone : is_in (with_flag c key false held) c j ≡ false = ap (λ l. is_in (with_flag c key false held) c l) jk ∙ flag_here held c key false (place_within counted key o there c within) (key_within counted key o there c within) in
+          let here : get first key ≡ Some o = sym (done key ∙ rw was refl) ∙ there in
+          ap (get new) jk ∙ (u.changed ∙ rw (gone, jk, here) refl)
+      | inr ne ↦
+          let yet : is_in (with_flag c key false held) c j ≡ is_in held c j = flag_beside held c key j false (place_within counted key o there c within) ne in
+          u.others j ne ∙ (done j ∙ rw yet refl)
+    ],
+    omega (arith, settles.len, len-with_value slab key o (with_holds c 0 o) there),
+  )
     where
-      here : get slab k ≡ get first k
-      here = done k ∙ rw (le-ltb k k (omega arith)) refl
+      wide : length o.holds ≡ places
+      wide = (sound.standing key o there).width
 
-      later : (j : ℕ) (x : Option (Live V)) → j ≢ k → beside_below c (k + 1) j x ≡ beside_below c k j x
-      later j x ne = elim (cases_lt j k) [
-        | inl l ↦ rw (lt-ltb j k l, lt-ltb j (k + 1) (omega arith)) refl
-        | inr g ↦ rw (le-ltb j k g, le-ltb j (k + 1) (omega arith)) refl
-      ]
-
-      at_k : (x : Option (Live V)) → beside_below c (k + 1) k x ≡ if_held_beside c x
-      at_k x = rw (lt-ltb k (k + 1) (omega arith)) refl
-
-      by : (x : Option (Live V)) → get slab k ≡ x → IsSound new more room given most places × ((j : ℕ) → get new j ≡ beside_below c (k + 1) j (get first j)) × (new.capacity ≡ slab.capacity) × (slab_len new ≤ slab_len slab)
-      by None e =
-          let n : (new ≡ slab) × (more ≡ rows) = rw e at none in (
-            rw (n.0, n.1) sound,
-            λ j. elim (cases_eq j k) [
-              | inl jk ↦ ap (λ s. get s j) n.0 ∙ (ap (get slab) jk ∙ (e ∙ rw (jk, at_k (get first k), ← here, e) refl))
-              | inr ne ↦ ap (λ s. get s j) n.0 ∙ (done j ∙ sym (later j (get first j) ne))
-            ],
-            ap (λ s. s.capacity) n.0,
-            omega (arith, ap (λ (s : Slab (Live V)). slab_len s) n.0),
-          )
-      by (Some o) e =
-          let s : Settles (with_value slab k (with_holds c 0 o)) new rows more k (with_holds c 0 o) = rw e at some in
-          let u = updates_after slab new k o (with_holds c 0 o) (if_held (with_holds c 0 o)) e s.updates in (
-            sound_settle slab new rows more room given most places sound k o (with_holds c 0 o) e refl (length-set o.holds c 0 ∙ (sound.standing k o e).width) s,
-            λ j. elim (cases_eq j k) [
-              | inl jk ↦ ap (get new) jk ∙ (u.changed ∙ rw (jk, at_k (get first k), ← here, e) refl)
-              | inr ne ↦ u.others j ne ∙ (done j ∙ sym (later j (get first j) ne))
-            ],
-            s.capacity,
-            omega (arith, s.len, len-with_value slab k o (with_holds c 0 o) e),
-          )
+      u : Updates slab new key (if_held (with_holds c 0 o))
+      u = updates_after slab new key o (with_holds c 0 o) (if_held (with_holds c 0 o)) there settles.updates

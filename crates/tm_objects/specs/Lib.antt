@@ -6,3 +6,5 @@ pub mod Stock
 pub mod LendingObjects
 pub mod Standing
 pub mod Rising
+pub mod Sparse
+pub mod Counted

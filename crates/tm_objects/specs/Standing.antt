@@ -1,5 +1,5 @@
 -- A trustee's state, seen as the stock of its objects.
-use Rattle.std.specs.Prelude.{◌≡◌, ℕ, map, length}
+use Rattle.std.specs.Prelude.{◌≡◌, ℕ, ◌+◌, map, length}
 use Rattle.tm_seq.specs.declared.kind.Next.TheVariants.{Done}
 use Rattle.tm_batch.specs.declared.message.Name.{Name}
 use Rattle.tm_model.specs.State.{Work, Object, Place, State, object_of, with_live, without}
@@ -7,7 +7,7 @@ use Rattle.tm_model.specs.Serve.{works_resumed}
 use Rattle.tm_model.specs.Serve as serve
 use Rattle.tm_model.specs.State as state
 use Rattle.tm_objects.specs.Live.{Live}
-use Rattle.tm_objects.specs.Stock.{Stock, entrusted, granted, released, reclaimed, closed, begun, finished, changed}
+use Rattle.tm_objects.specs.Stock.{Stock, entrusted, granted, released, reclaimed, closed, begun, finished, changed, gift_taken, gifts_taken}
 
 -- an object of a state as a live object: its launches are counted
 abbrev pub live_of : {V T : Type 0} → Object V T → Live V
@@ -57,3 +57,15 @@ module _ (V O R T : Type 0) where
   abbrev pub ChangesAlike : Type 0
   ChangesAlike =
       (id : ℕ) (v : V) (s : State V O R T) → stock_of (with_live (state.change id (λ o. record o { value = v }) s.live) s) ≡ changed id (stock_of s) v
+
+  -- the gifts that leave with a batch of some room
+  abbrev pub SendsAlike : Type 0
+  SendsAlike = (c room : ℕ) (s : State V O R T) → stock_of (serve.sent_off c room s) ≡ gifts_taken c room (stock_of s)
+
+-- gifts that are taken one by one
+module _ (V : Type 0) where
+  abbrev pub TakesNone : Type 0
+  TakesNone = (c : ℕ) (s : Stock V) → gifts_taken c 0 s ≡ s
+
+  abbrev pub TakesOneMore : Type 0
+  TakesOneMore = (c n : ℕ) (s : Stock V) → gifts_taken c (n + 1) s ≡ gift_taken c (gifts_taken c n s)

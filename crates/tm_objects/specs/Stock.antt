@@ -48,6 +48,10 @@ module _ {V : Type 0} where
   abbrev pub gift_taken : ℕ → Stock V → Stock V
   gift_taken c s = record s { gifts = slice_set s.gifts c (drop 1 (gifts_of s.gifts c)) }
 
+  -- the n gifts that waited longest for place c have left
+  abbrev pub gifts_taken : ℕ → ℕ → Stock V → Stock V
+  gifts_taken c n s = record s { gifts = slice_set s.gifts c (drop n (gifts_of s.gifts c)) }
+
   -- work on an object was launched
   abbrev pub begun : ℕ → Stock V → Stock V
   begun id s = record s { live = change id (λ o. with_launches (o.launches + 1) o) s.live }

@@ -1,5 +1,5 @@
 //! The gifts that wait.
-ghost use Rattle.std.specs.Prelude.{◌≡◌, ◌<◌, ◌≤◌, ◌↔◌, [], ◌∷◌, ◌++◌, drop, length, replicate, slice_get, slice_set, IsTrue, IfOk};
+ghost use Rattle.std.specs.Prelude.{◌≡◌, ◌<◌, ◌≤◌, ◌↔◌, [], ◌∷◌, ◌++◌, drop, length, All, replicate, slice_get, slice_set, IsTrue, IfOk};
 ghost use Rattle.tm_objects.specs.Stock.{gifts_of};
 
 use circular_buffer::HeapCircularBuffer;
@@ -17,14 +17,14 @@ pub struct GiftQueues {
 }
 
 impl Model for GiftQueues {
-    ghost use Rattle.std.specs.Prelude.{◌≡◌, List, map, All};
+    ghost use Rattle.std.specs.Prelude.{◌≡◌, ◌≤◌, List, length, map, All};
     ghost use Rattle.tm_batch.specs.declared.message.Name.{Name};
 
     ghost Value = { List (List Name) };
 
     ghost view = { λ a. map (λ q. q.items) a.queues.items };
 
-    ghost invariant = { λ a. All (λ n. n ≡ 1024) (map (λ q. q.capacity) a.queues.items) };
+    ghost invariant = { λ a. All (λ n. n ≡ 1024) (map (λ q. q.capacity) a.queues.items) × All (λ gifts. length gifts ≤ 1024) (map (λ q. q.items) a.queues.items) };
 }
 
 impl GiftQueues {
@@ -37,6 +37,13 @@ impl GiftQueues {
             queues.push_reserved(HeapCircularBuffer::with_capacity(alloc, MOST_GIFTS)?);
         }
         Ok(GiftQueues { queues })
+    }
+
+    /// At most 1,024 gifts wait for each place. Nothing runs.
+    pub fn known(&self)
+        ensures { All (λ gifts. length gifts ≤ 1024) self.now }
+    {
+        let _queues = &self.queues;
     }
 
     /// Whether no further gift may wait for a place.

@@ -2,7 +2,7 @@
 //!
 //! Nothing here runs: each function states a law, for every kind of object. The stock of a state has
 //! its live objects, with their launches counted, and the gifts that wait.
-ghost use Rattle.tm_objects.specs.Standing.{EntrustsAlike, GrantsAlike, ReleasesAlike, ReclaimsAlike, ClosesAlike, LaunchesAlike, FinishesAlike, ChangesAlike};
+ghost use Rattle.tm_objects.specs.Standing.{EntrustsAlike, GrantsAlike, ReleasesAlike, ReclaimsAlike, ClosesAlike, LaunchesAlike, FinishesAlike, ChangesAlike, SendsAlike, TakesNone, TakesOneMore};
 
 use tm_seq::Entrusted;
 
@@ -44,4 +44,11 @@ pub fn finishes_alike<S: Entrusted>()
 /// An operation changes the value that `value_mut` lends.
 pub fn changes_alike<S: Entrusted>()
     ensures { ChangesAlike S S.Op S.Reply S.Task }
+{}
+
+/// The gifts that leave with a batch are those that so many calls of `take_gift` take.
+pub fn sends_alike<S: Entrusted>()
+    ensures sent { SendsAlike S S.Op S.Reply S.Task }
+    ensures none { TakesNone S }
+    ensures one_more { TakesOneMore S }
 {}

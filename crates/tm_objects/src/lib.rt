@@ -3,6 +3,8 @@
 
 mod entry;
 mod gifts;
+mod held;
+mod keys;
 mod laws;
 mod left;
 mod live;
@@ -11,7 +13,7 @@ mod slots;
 
 pub use laws::{
     changes_alike, closes_alike, entrusts_alike, finishes_alike, grants_alike, launches_alike,
-    reclaims_alike, releases_alike,
+    reclaims_alike, releases_alike, sends_alike,
 };
 pub use left::Left;
 pub use objects::{More, Objects};

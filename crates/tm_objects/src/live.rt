@@ -6,8 +6,10 @@ ghost use Rattle.tm_objects.specs.Rising.{IsRising};
 ghost use Rattle.tm_objects.specs.Live.{object_of, holds_of, total, with_holds, with_launches, first_held, change, kept, without, HasLive, count_in, total_in};
 
 use crate::entry::Entry;
+use crate::held::{empty_sets, forget_key, keep_key, note_hold, pop_key};
+use crate::keys::KeySet;
 use crate::left::Left;
-use crate::slots::{blank_rows, key_of, locate, settle, sweep_key};
+use crate::slots::{blank_rows, drop_held, key_of, locate, settle};
 use slab::Slab;
 use std::alloc::{AllocError, Global};
 use std::marker::Model;
@@ -19,6 +21,8 @@ pub struct LiveObjects<V> {
     slots: Slab<Entry<V>>,
     // A row of zeros for each object that may yet come, one zero for each place.
     spare: Vec<Vec<u32>>,
+    // For each place the keys of the objects that it holds.
+    held: Vec<KeySet>,
     given: u64,
     most: u32,
     places: u32,
@@ -33,6 +37,7 @@ impl<V> Model for LiveObjects<V> {
     ghost coded = { live_list_code V.code };
 
     ghost use Rattle.tm_objects.specs.Listing.{seek, listed, IsSound};
+    ghost use Rattle.tm_objects.specs.Counted.{AreCounted};
 
     ghost view = { λ a. record {
       most = a.most;
@@ -41,27 +46,32 @@ impl<V> Model for LiveObjects<V> {
       live = listed (seek a.slots.slots) a.given;
     } };
 
-    ghost invariant = { λ a. IsSound a.slots (map (λ row. row.items) a.spare.items) (vec_capacity a.spare) a.given a.most a.places };
+    ghost invariant = { λ a. IsSound a.slots (map (λ row. row.items) a.spare.items) (vec_capacity a.spare) a.given a.most a.places × AreCounted a.slots a.held.items a.places };
 }
 
 impl<V: Drop> LiveObjects<V> {
     ghost use Rattle.tm_objects.specs.Lending.{lends_value};
 
-    /// No objects, and room for `most` with a count for each of `places`.
+    /// No objects, and room for `most` with a count for each of `places`: 12 bytes for each object and
+    /// place.
     pub fn new(alloc: Global, most: u32, places: u32) -> Result<LiveObjects<V>, AllocError>
         ensures { IfOk result (λ a. a ≡ record { most = most; places = places; given = 0; live = [] }) }
     {
+        let slots = Slab::with_capacity(alloc, most as usize)?;
+        let spare = blank_rows(alloc, most as usize, places as usize)?;
+        let held = empty_sets(alloc, places, slots.capacity())?;
         Ok(LiveObjects {
-            slots: Slab::with_capacity(alloc, most as usize)?,
-            spare: blank_rows(alloc, most as usize, places as usize)?,
+            slots,
+            spare,
+            held,
             given: 0,
             most,
             places,
         })
     }
 
-    /// At most `most` objects are live, and they have rising ids, a count for each place, and a hold
-    /// or a launch. Nothing runs.
+    /// At most `most` objects are live, and they have rising ids, a count of 32 bits for each place,
+    /// and a hold or a launch. Nothing runs.
     pub fn known(&self)
         ensures { IsRising self.now }
     {
@@ -94,12 +104,13 @@ impl<V: Drop> LiveObjects<V> {
         let Some(row) = self.spare.pop() else {
             unreachable!()
         };
-        self.given += 1;
-        let mut entry = Entry::new(self.given, value, row);
+        let id = next_id(&mut self.given);
+        let mut entry = Entry::new(id, value, row);
         entry.add_hold(place as usize);
         let key = self.slots.insert_reserved(entry);
+        keep_key(&mut self.held, key, place as usize);
         Name {
-            id: self.given,
+            id,
             place: u32::try_from(key).unwrap_or(u32::MAX),
         }
     }
@@ -138,6 +149,7 @@ impl<V: Drop> LiveObjects<V> {
     {
         let key = key_of(&self.slots, name);
         self.slots[key].add_hold(place as usize);
+        keep_key(&mut self.held, key, place as usize);
     }
 
     /// Adds an unfinished launch.
@@ -158,6 +170,7 @@ impl<V: Drop> LiveObjects<V> {
     {
         let key = key_of(&self.slots, name);
         self.slots[key].take_hold(place as usize);
+        note_hold(&self.slots, &mut self.held, key, place as usize);
         settle(&mut self.slots, &mut self.spare, key)
     }
 
@@ -183,6 +196,7 @@ impl<V: Drop> LiveObjects<V> {
         let (value, mut row) = self.slots.remove(key).into_parts();
         row[place as usize] = 0;
         self.spare.push_reserved(row);
+        forget_key(&mut self.held, key, place as usize);
         value
     }
 
@@ -196,16 +210,27 @@ impl<V: Drop> LiveObjects<V> {
         self.slots[key].value_mut()
     }
 
-    /// Takes all holds of a place away, and drops the values on which no hold is left. How many.
+    /// Takes all holds of a place away, in time of how many objects it holds, and drops the values on
+    /// which no hold is left. How many.
     pub fn drop_holds(&mut self, place: u32) -> u32
         requires { place < self.old.places }
         ensures count { result + length self.new.live ≡ length self.old.live }
         ensures taken { self.new ≡ record self.old { live = kept (map (λ o. with_holds place 0 o) self.old.live) } }
     {
         let before = self.spare.len();
-        for key in 0..self.slots.capacity() {
-            sweep_key(&mut self.slots, &mut self.spare, key, place as usize);
+        while let Some(key) = pop_key(&mut self.held, place as usize) {
+            drop_held(&mut self.slots, &mut self.spare, key, place as usize);
         }
         (self.spare.len() - before) as u32
     }
+}
+
+// Gives out an id that was never given out.
+fn next_id(given: &mut u64) -> u64
+    requires { given.old < 18446744073709551615 }
+    ensures given { given.new ≡ given.old + 1 }
+    ensures id { result ≡ given.old + 1 }
+{
+    *given += 1;
+    *given
 }

@@ -54,7 +54,7 @@ impl<S: Entrusted> Objects<S> {
     ghost use Rattle.tm_objects.specs.LendingObjects.{lends_object};
 
     /// No objects. At most `objects` may be live, the greatest id is `last_id`, and there are
-    /// `places` places. It takes 4 bytes for each object and place, 16 KiB for each place, and about
+    /// `places` places. It takes 12 bytes for each object and place, 16 KiB for each place, and about
     /// 100 bytes and a value for each object.
     pub fn new(
         alloc: Global,
@@ -72,11 +72,13 @@ impl<S: Entrusted> Objects<S> {
     }
 
     /// What holds at any time: at most as many objects are live as may be, and they have rising ids
-    /// below the next one, a count for each place, and a hold or a launch. Nothing runs.
+    /// below the next one, a count of 32 bits for each place, and a hold or a launch; and at most
+    /// 1,024 gifts wait for each place. Nothing runs.
     pub fn known(&self)
         ensures { IsStock self.now }
     {
         self.live.known();
+        self.gifts.known();
     }
 
     /// Takes a value as the object of the next id, which a place holds once. It is refused where as
@@ -195,7 +197,8 @@ impl<S: Entrusted> Objects<S> {
         self.live.value_mut(name)
     }
 
-    /// Takes all holds and waiting gifts of a place away. How many objects went.
+    /// Takes all holds and waiting gifts of a place away, in time of how many it has. How many
+    /// objects went.
     pub fn drop_client(&mut self, place: u32) -> u32
         requires { place < length self.old.gifts }
         ensures count { result + length self.new.live ≡ length self.old.live }

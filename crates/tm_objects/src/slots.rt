@@ -52,24 +52,21 @@ pub fn settle<V: Drop>(slots: &mut Slab<Entry<V>>, spare: &mut Vec<Vec<u32>>, ke
     Left::Dropped
 }
 
-/// Takes the holds of a place on the object of a key away, if there is one, and drops it where
-/// there is then no hold on it.
-pub fn sweep_key<V: Drop>(
+/// Takes the holds of a place on the object of a key away, and drops it where there is then no hold
+/// on it.
+pub fn drop_held<V: Drop>(
     slots: &mut Slab<Entry<V>>,
     spare: &mut Vec<Vec<u32>>,
     key: usize,
     place: usize,
 )
-    requires place { IfSome (get slots.old key) (λ o. place < length o.holds) }
-    requires room { ContainsKey slots.old key → vec_len spare.old < vec_capacity spare.old }
-    ensures swept { IfSome (get slots.old key) (λ o. Settles (with_value slots.old key (with_holds place 0 o)) slots.new (map (λ row. row.items) spare.old.items) (map (λ row. row.items) spare.new.items) key (with_holds place 0 o)) }
-    ensures absent { IfNone (get slots.old key) ((slots.new ≡ slots.old) × (spare.new.items ≡ spare.old.items)) }
+    requires there { IsSomeAnd (get slots.old key) (λ o. place < length o.holds) }
+    requires room { vec_len spare.old < vec_capacity spare.old }
+    ensures dropped { IfSome (get slots.old key) (λ o. Settles (with_value slots.old key (with_holds place 0 o)) slots.new (map (λ row. row.items) spare.old.items) (map (λ row. row.items) spare.new.items) key (with_holds place 0 o)) }
     ensures capacity { vec_capacity spare.new ≡ vec_capacity spare.old }
 {
-    if slots.contains(key) {
-        slots[key].take_holds(place);
-        settle(slots, spare, key);
-    }
+    slots[key].take_holds(place);
+    settle(slots, spare, key);
 }
 
 /// The key of the object of a name that is live.

@@ -4,22 +4,24 @@ use Rattle.std.proofs.lemmas.List.{length-map}
 use Rattle.circular_buffer.specs.Buffer.{Buffer}
 use Rattle.tm_batch.specs.declared.message.Name.{Name}
 use Rattle.tm_objects.specs.Stock.{gifts_of}
-use Rattle.tm_objects.proofs.Queues.{rooms-set, waiting-set, room_at, waiting_at}
+use Rattle.tm_objects.proofs.Queues.{few-set, rooms-set, waiting-set, room_at, waiting_at}
 use Rattle.tm_objects.proofs.gifts.GiftQueues.clear.Goals as goal
 
 pub invariant_of-self : goal.invariant_of-self
 invariant_of-self c =
     let within : c.args.place < length c.self.inside.queues.items = let l = length-map c.self.inside.queues.items (λ (q : Buffer Name). q.items) in let e = ap (λ (qs : List (List Name)). length qs) c.self.view_is in omega (arith, l, e, c.requires) in
     let b = c.index_mut.result.now in
-    let room = room_at c.self.inside.queues.items c.args.place b within c.index_mut.ensures.value c.self.invariant in
-    let waits : b.items ≡ gifts_of c.args.self.now c.args.place = waiting_at c.self.inside.queues.items c.args.place b within c.index_mut.ensures.value ∙ ap (λ (qs : List (List Name)). gifts_of qs c.args.place) c.self.view_is in
-    rooms-set c.self.inside.queues.items c.args.place c.clear.new.self (ap (λ (q : Buffer Name). q.capacity) (c.clear.ensures) ∙ room) c.self.invariant
+    let room = room_at c.self.inside.queues.items c.args.place b within c.index_mut.ensures.value c.self.invariant.0 in
+    let waits : b.items ≡ gifts_of c.args.self.now c.args.place = waiting_at c.self.inside.queues.items c.args.place b within c.index_mut.ensures.value ∙ ap (λ (qs : List (List Name)). gifts_of qs c.args.place) c.self.view_is in (
+      rooms-set c.self.inside.queues.items c.args.place c.clear.new.self (ap (λ (q : Buffer Name). q.capacity) (c.clear.ensures) ∙ room) c.self.invariant.0,
+      few-set c.self.inside.queues.items c.args.place c.clear.new.self (rw (ap (λ (q : Buffer Name). q.items) c.clear.ensures) (omega arith)) c.self.invariant.1,
+    )
 
 pub returns : goal.returns
 returns c =
     let within : c.args.place < length c.self.inside.queues.items = let l = length-map c.self.inside.queues.items (λ (q : Buffer Name). q.items) in let e = ap (λ (qs : List (List Name)). length qs) c.self.view_is in omega (arith, l, e, c.requires) in
     let b = c.index_mut.result.now in
-    let room = room_at c.self.inside.queues.items c.args.place b within c.index_mut.ensures.value c.self.invariant in
+    let room = room_at c.self.inside.queues.items c.args.place b within c.index_mut.ensures.value c.self.invariant.0 in
     let waits : b.items ≡ gifts_of c.args.self.now c.args.place = waiting_at c.self.inside.queues.items c.args.place b within c.index_mut.ensures.value ∙ ap (λ (qs : List (List Name)). gifts_of qs c.args.place) c.self.view_is in
     waiting-set c.self.inside.queues.items c.args.place c.clear.new.self
     ∙ (ap (λ (xs : List Name). set (map (λ (q : Buffer Name). q.items) c.self.inside.queues.items) c.args.place xs) (ap (λ (q : Buffer Name). q.items) (c.clear.ensures) ∙ ap (λ (xs : List Name). []) waits)

@@ -1,4 +1,4 @@
-use Rattle.std.proofs.Common.{◌≡◌, [], map, All, replicate, vec_len, vec_capacity}
+use Rattle.std.proofs.Common.{◌≡◌, ◌≤◌, [], length, map, All, replicate, vec_len, vec_capacity}
 use Rattle.tm_objects.proofs.gifts.GiftQueues.new.Given as goal
 
 -- one queue for each place so far, in which no gift waits
@@ -7,3 +7,4 @@ invariant-loop l =
     (vec_len l.queues ≡ l.counter) × (vec_capacity l.queues ≡ l.places)
     × All (λ n. n ≡ 1024) (map (λ q. q.capacity) l.queues.items)
     × (map (λ q. q.items) l.queues.items ≡ replicate l.counter [])
+    × All (λ gifts. length gifts ≤ 1024) (map (λ q. q.items) l.queues.items)

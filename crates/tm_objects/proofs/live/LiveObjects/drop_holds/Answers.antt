@@ -1,26 +1,52 @@
-use Rattle.std.proofs.Common.{◌≡◌, ℕ, List, Option, Some, None, Vec, Global, ap, arith}
-use Rattle.std.specs.Prelude.{map, IfNone}
-use Rattle.tm_objects.specs.Live.{with_holds, kept}
+use Rattle.std.proofs.Common.{◌≡◌, ℕ, ◌<◌, length, Vec, Global, refl, ap, ◌∙◌, arith}
+use Rattle.std.specs.Prelude.{map}
+use Rattle.slab.specs.Slab.{get}
+use Rattle.tm_objects.specs.Live.{LiveList, with_holds, kept}
+use Rattle.tm_objects.specs.Listing.{if_held_beside}
 use Rattle.tm_objects.proofs.At.{live_is}
-use Rattle.tm_objects.proofs.Swept.{swept_listed, swept_all, swept_step}
+use Rattle.tm_objects.proofs.Counted.{there_is, less_flags}
+use Rattle.tm_objects.proofs.Swept.{swept_listed, swept_none, swept_step}
 use Rattle.tm_objects.proofs.live.LiveObjects.drop_holds.Goals as goal
 
-absent_map : {X A B C : Type 0} (f : B → C) (x : Option X) (a b : A) (r s : List B) → IfNone x ((a ≡ b) × (r ≡ s)) → IfNone x ((a ≡ b) × (map f r ≡ map f s))
-absent_map f None a b r s h = (h.0, ap (λ rows. map f rows) h.1)
-absent_map f (Some x) a b r s h = tt
+pub loop-key-init : goal.loop-key-init
+loop-key-init g c = record {
+  sound = c.self.invariant.0;
+  counted = c.self.invariant.1;
+  done = swept_none c.self.invariant.0 c.self.invariant.1 c.args.place;
+  fewer = omega arith;
+  given = refl;
+  most = refl;
+  places = refl;
+}
+
+pub loop-key-smaller : goal.loop-key-smaller
+loop-key-smaller g c =
+    let i = c.loop-key.invariant in
+    let within : c.args.place < length c.loop-key.self-inside.held.items = let e = ap (λ (s : LiveList g.row.V.Denot). s.places) c.self.view_is in omega (arith, e, c.requires, i.counted.sets) in
+    rw c.in-Some.ensures.taken (less_flags c.loop-key.self-inside.held.items c.args.place c.in-Some.key within c.in-Some.ensures.was)
 
 pub loop-key-preserved : goal.loop-key-preserved
 loop-key-preserved g c =
     let i = c.loop-key.invariant in
     let f = λ (row : Vec ℕ Global). row.items in
-    let s = swept_step i.0 c.self.inside.slots c.sweep_key.new.slots (map f c.sweep_key.new.spare.items) c.args.place c.loop-key.key i.1 c.sweep_key.ensures.swept
-    (absent_map f _ _ _ _ _ c.sweep_key.ensures.absent) in
-    (rw c.sweep_key.ensures.capacity s.0, s.1, omega (arith, s.3, i.2), i.3, i.4, i.5)
+    let within : c.args.place < c.self.inside.places = let e = ap (λ (s : LiveList g.row.V.Denot). s.places) c.self.view_is in omega (arith, e, c.requires) in
+    let there = there_is i.counted c.args.place c.in-Some.key c.in-Some.ensures.was in
+    let s = swept_step i.sound i.counted c.self.inside.slots c.drop_held.new.slots (map f c.drop_held.new.spare.items) c.args.place c.in-Some.key there.0 within there.1 c.in-Some.ensures.was i.done
+    (rw there.1 at c.drop_held.ensures.dropped) in
+    record {
+      sound = rw c.drop_held.ensures.capacity s.0;
+      counted = rw c.in-Some.ensures.taken s.1;
+      done = rw c.in-Some.ensures.taken s.2;
+      fewer = omega (arith, s.3, i.fewer);
+      given = i.given;
+      most = i.most;
+      places = i.places;
+    }
 
 pub returns-clause-taken : goal.returns-clause-taken
 returns-clause-taken g c =
     let i = c.loop-key.invariant in
-    let all = swept_all c.self.inside.slots c.loop-key.self-inside.slots c.args.place c.loop-key.key (omega (arith, c.capacity-key-end.ensures.slots, c.loop-key-test.false)) i.1 in
-    rw (i.3, i.4, i.5)
+    let all : (j : ℕ) → get c.loop-key.self-inside.slots j ≡ if_held_beside c.args.place (get c.self.inside.slots j) = λ j. i.done j ∙ rw (c.in_default.ensures.none j) refl in
+    rw (i.given, i.most, i.places)
     (live_is _ _ _ (λ l. kept (map (λ o. with_holds c.args.place 0 o) l)) c.self.view_is
-    (swept_listed c.self.inside.slots c.loop-key.self-inside.slots c.args.place c.self.inside.given c.self.invariant.apart i.0.apart all))
+    (swept_listed c.self.inside.slots c.loop-key.self-inside.slots c.args.place c.self.inside.given c.self.invariant.0.apart i.sound.apart all))

@@ -18,5 +18,5 @@ module _ {V : Type 0} {slab : Slab (Live V)} {rows : List (List ℕ)} {room give
 
 pub returns : goal.returns
 returns g c =
-    let same = alike c.self.invariant c.args.self.now.live c.args.name.id c.locate.result (ap (λ (s : LiveList g.row.V.Denot). s.live) c.self.view_is) c.locate.ensures.found c.locate.ensures.absent in
+    let same = alike c.self.invariant.0 c.args.self.now.live c.args.name.id c.locate.result (ap (λ (s : LiveList g.row.V.Denot). s.live) c.self.view_is) c.locate.ensures.found c.locate.ensures.absent in
     (λ h. sym same ∙ (sym c.is_some.ensures ∙ h), λ h. c.is_some.ensures ∙ (same ∙ h))

@@ -5,4 +5,4 @@ use Rattle.tm_objects.proofs.Rising.{rising_sound}
 use Rattle.tm_objects.proofs.live.LiveObjects.known.Goals as goal
 
 pub returns : goal.returns
-returns g c = subst (λ (s : LiveList g.row.V.Denot). IsRising s) c.self.view_is (rising_sound c.self.invariant)
+returns g c = subst (λ (s : LiveList g.row.V.Denot). IsRising s) c.self.view_is (rising_sound c.self.invariant.0 c.self.invariant.1)
