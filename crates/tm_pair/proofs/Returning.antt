@@ -1,10 +1,7 @@
 -- What comes back to a side that had nothing out and asked nothing.
-use Rattle.std.proofs.Common.{◌≡◌, ℕ, ◌+◌, ◌≤◌, ◌⊎◌, false, true, List, [], ◌∷◌, ◌++◌, length, inl, inr, refl, sym, ◌∙◌, ap, subst, arith, append-nil, length-append}
-use Rattle.std.specs.Prelude.{IsSomeAnd}
-use Rattle.std.specs.declared.option.Option.{Option}
+use Rattle.std.proofs.Common.{◌≡◌, ℕ, ◌+◌, ◌≤◌, false, true, List, [], ◌∷◌, ◌++◌, length, refl, sym, ◌∙◌, ap, subst, arith, append-nil, length-append}
 use Rattle.std.specs.declared.option.Option.TheVariants.{None, Some}
 use Rattle.tm_seq.specs.Kind.{Kind}
-use Rattle.tm_batch.specs.declared.batch.Batch.{Batch}
 use Rattle.tm_batch.specs.declared.message.Request.{Request}
 use Rattle.tm_batch.specs.declared.message.AnswerBatch.{AnswerBatch}
 use Rattle.tm_model.specs.declared.entry.Entry.{Entry}
@@ -34,18 +31,6 @@ none (x ∷ l) h = let no : ⊥ = omega (arith, h) in absurd no
 -- what joins a list to itself is empty
 same_join : {X : Type 0} (l m : List X) → l ≡ l ++ m → m ≡ []
 same_join l m e = let n : length l ≡ length (l ++ m) = ap (λ x. length x) e in let joined = length-append l m in none m (omega (arith, n, joined))
-
-empty_or : {X A B : Type 0} (l : List X) → (l ≡ [] → A) → (¬ (l ≡ []) → B) → B ⊎ A
-empty_or [] then else = inr (then refl)
-empty_or (x ∷ l) then else = inl (else (λ e. absurd cc))
-
-module _ {V O R T : Type 0} where
-  -- a batch was found that has no request, or not
-  pub nothing_or :
-      {A B : Type 0} (seen : Option (Batch V O R T)) → (IsSomeAnd seen (λ b. b.requests.items ≡ []) → A) → (¬ IsSomeAnd seen (λ b. b.requests.items ≡ []) → B)
-      → B ⊎ A
-  nothing_or None then else = inl (else (λ h. h))
-  nothing_or (Some b) then else = empty_or b.requests.items then else
 
 module _ {V O R T : Type 0} (kind : Kind V O R T) (opening : State V O R T) where
   -- a side with nothing out has seen all that it sent run
