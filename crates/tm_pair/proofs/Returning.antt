@@ -1,16 +1,16 @@
 -- What comes back to a side that had nothing out and asked nothing.
-use Rattle.std.proofs.Common.{◌≡◌, ℕ, ◌+◌, ◌≤◌, false, true, List, [], ◌∷◌, ◌++◌, length, refl, sym, ◌∙◌, ap, subst, arith, append-nil, length-append}
+use Rattle.std.proofs.Common.{◌≡◌, ℕ, ◌≤◌, false, true, List, [], ◌∷◌, ◌++◌, length, refl, sym, ◌∙◌, ap, subst, arith, append-nil, length-append}
 use Rattle.std.specs.declared.option.Option.TheVariants.{None, Some}
 use Rattle.tm_seq.specs.Kind.{Kind}
 use Rattle.tm_batch.specs.declared.message.Request.{Request}
 use Rattle.tm_batch.specs.declared.message.AnswerBatch.{AnswerBatch}
 use Rattle.tm_model.specs.declared.entry.Entry.{Entry}
 use Rattle.tm_model.specs.declared.entry.Entry.TheVariants.{Sent}
-use Rattle.tm_model.specs.State.{State, place_count, place_of}
+use Rattle.tm_model.specs.State.{State, place_count}
 use Rattle.tm_model.specs.Slots.{looked}
 use Rattle.tm_model.specs.Ran.{mark_of, ran}
 use Rattle.tm_model.specs.Entries.{batch_entries}
-use Rattle.tm_model.specs.Holds.{launches_in, spent_in, ended_in}
+use Rattle.tm_model.specs.Holds.{launches_in, ended_in}
 use Rattle.tm_core.proofs.First.{opening_unfinished}
 use Rattle.tm_core.proofs.LaunchLog.{log_launches}
 use Rattle.tm_core.proofs.Marks.{ran-append}
@@ -18,9 +18,9 @@ use Rattle.tm_core.proofs.Numbering.{opening_place}
 use Rattle.tm_core.proofs.Ordered.{opening_ordered}
 use Rattle.tm_core.proofs.Tallies.{ended_in-append}
 use Rattle.tm_pair.specs.Views.{ClientView}
-use Rattle.tm_pair.specs.Calls.{Publishes, AreAnswers, Gets, Collects}
+use Rattle.tm_pair.specs.Calls.{Publishes, Gets, Collects}
 use Rattle.tm_pair.specs.Sides.{HasRun, IsGoodClient}
-use Rattle.tm_pair.specs.Rounds.{AwaitsNothing, GetsNothing, FindsNothing}
+use Rattle.tm_pair.specs.Rounds.{GetsNothing, FindsNothing}
 use Rattle.tm_pair.specs.declared.table.Collected.{Collected}
 use Rattle.tm_pair.specs.declared.table.Collected.TheVariants.{Answers, Pending, Idle}
 

@@ -1,4 +1,4 @@
-use Rattle.std.proofs.Common.{◌<◌, sym, ◌∙◌, ap, subst}
+use Rattle.std.proofs.Common.{◌<◌, sym, ◌∙◌, subst}
 use Rattle.tm_model.specs.State.{place_count}
 use Rattle.tm_pair.specs.Sides.{IsGoodClient}
 use Rattle.tm_pair.proofs.Returning.{finds_nothing}

@@ -1,7 +1,7 @@
 use Rattle.std.proofs.Common.{◌≡◌, ◌<◌, sym, ◌∙◌, ap, subst, arith}
 use Rattle.std.specs.declared.option.Option.TheVariants.{Some}
 use Rattle.tm_model.specs.State.{place_count}
-use Rattle.tm_pair.specs.Sample.{less_kind, one_granted}
+use Rattle.tm_pair.specs.Sample.{one_granted}
 use Rattle.tm_pair.proofs.Handing.{hand_in_range, batch_taken}
 use Rattle.tm_pair.proofs.tests.answering.answer_grant.Goals as goal
 

@@ -1,7 +1,4 @@
-use Rattle.std.proofs.Common.{[], lit<, refl, sym, subst}
-use Rattle.std.specs.Prelude.{IsSomeAnd}
-use Rattle.tm_model.specs.Answering.{MayGrow}
-use Rattle.tm_pair.specs.Sample.{less_kind}
+use Rattle.std.proofs.Common.{lit<, refl}
 use Rattle.tm_pair.proofs.Sampling.{two_grow}
 use Rattle.tm_pair.proofs.tests.answering.reply_twice.Goals as goal
 

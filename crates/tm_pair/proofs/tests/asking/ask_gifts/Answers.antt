@@ -1,6 +1,5 @@
 use Rattle.std.proofs.Common.{lit<, sym, subst}
 use Rattle.tm_model.specs.Orderly.{IsOrderly}
-use Rattle.tm_pair.specs.Sample.{less_kind}
 use Rattle.tm_pair.proofs.Nothing.{nothing_is_orderly}
 use Rattle.tm_pair.proofs.tests.asking.ask_gifts.Goals as goal
 

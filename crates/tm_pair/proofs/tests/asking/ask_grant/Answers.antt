@@ -1,5 +1,4 @@
 use Rattle.std.proofs.Common.{lit<}
-use Rattle.tm_pair.specs.Sample.{less_kind}
 use Rattle.tm_pair.proofs.Sampling.{grant_orderly}
 use Rattle.tm_pair.proofs.tests.asking.ask_grant.Goals as goal
 

@@ -1,4 +1,4 @@
-use Rattle.std.proofs.Common.{lit<, refl}
+use Rattle.std.proofs.Common.{lit<}
 use Rattle.tm_pair.proofs.Sampling.{two_orderly}
 use Rattle.tm_pair.proofs.tests.asking.ask_two.Goals as goal
 
