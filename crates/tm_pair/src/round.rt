@@ -1,5 +1,5 @@
 //! One round of an empty batch through any table.
-ghost use Rattle.std.specs.Prelude.{◌≡◌, ℕ, ◌+◌, ◌-◌, ◌^◌, ◌<◌, ◌↔◌, min, List, [], length, IsTrue, IsOk, OnOk, OnErr, IsSomeAnd};
+ghost use Rattle.std.specs.Prelude.{◌≡◌, ◌≢◌, ℕ, ◌+◌, ◌-◌, ◌^◌, ◌<◌, ◌↔◌, min, List, [], length, IsTrue, IsOk, OnOk, OnErr, IsSomeAnd};
 ghost use Rattle.std.specs.declared.option.Option.{Option};
 ghost use Rattle.std.specs.declared.option.Option.TheVariants.{None, Some};
 ghost use Rattle.tm_batch.specs.declared.batch.Batch.{Batch};
@@ -27,6 +27,7 @@ pub fn ask_nothing<S: Entrusted, P: PairTable<S>>(
     ensures err { OnErr result (P.client_view side.new ≡ P.client_view side.old) }
     ensures mine { P.HasClient table.new side.new }
     ensures opening { P.opening table.new ≡ P.opening table.old }
+    ensures clients { (other : P.ClientSide) → (P.client_view other).place ≢ (P.client_view side.old).place → P.HasClient table.old other → P.HasClient table.new other }
     ensures trustee { (other : P.TrusteeSide) → P.HasTrustee table.old other → P.HasTrustee table.new other }
 {
     table.publish(side, Batch::new(0))
@@ -102,6 +103,7 @@ fn ask_free<S: SmallBatch, P: PairTable<S>>(table: &mut P, side: &mut P::ClientS
     ensures asks { Publishes [] 0 (P.client_view side.old) (P.client_view side.new) }
     ensures mine { P.HasClient table.new side.new }
     ensures opening { P.opening table.new ≡ P.opening table.old }
+    ensures clients { (other : P.ClientSide) → (P.client_view other).place ≢ (P.client_view side.old).place → P.HasClient table.old other → P.HasClient table.new other }
     ensures trustee { (other : P.TrusteeSide) → P.HasTrustee table.old other → P.HasTrustee table.new other }
 {
     let _ = ask_nothing(table, side);
@@ -150,6 +152,7 @@ pub fn once_round<S: SmallBatch, P: PairTable<S>>(
     ensures client { P.HasClient table.new client.new }
     ensures trustee { P.HasTrustee table.new trustee.new }
     ensures opening { P.opening table.new ≡ P.opening table.old }
+    ensures clients { (other : P.ClientSide) → (P.client_view other).place ≢ place → P.HasClient table.old other → P.HasClient table.new other }
 {
     ask_free(table, client);
     answer_free(table, trustee, place, front);
