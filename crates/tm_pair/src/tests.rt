@@ -14,9 +14,9 @@ mod start;
 use self::answering::{answer_gift, answer_grant, answer_two};
 use self::asking::{ask_gifts, ask_grant, ask_over, ask_two, the_name};
 use self::less::Less;
-use self::looking::{are_replies, asks, is_granted, is_one_gift};
+use self::looking::{are_replies, asks, comes_empty, is_granted, is_one_gift};
 use self::start::start;
-use crate::{Collected, Held, PairTable, ask_nothing};
+use crate::{Collected, Held, PairTable, ask_nothing, once_round};
 use std::process::Abort;
 use std::test::Fail;
 use tm_batch::{Batch, Request};
@@ -71,6 +71,22 @@ fn one_place<P: PairTable<Less>>(
     );
 }
 
+/// One round of nothing, whose front is the first entry of the log.
+fn round_goes<P: PairTable<Less>>(
+    rt: &impl Abort,
+    table: &mut P,
+    client: &mut P::ClientSide,
+    trustee: &mut P::TrusteeSide,
+)
+    requires client { P.HasClient table.old client.old }
+    requires trustee { P.HasTrustee table.old trustee.old }
+    requires opening { P.opening table.old ≡ sample (record { by = 4 }) }
+    requires first { P.client_view client.old ≡ client_of 0 no_slot }
+    requires log { P.trustee_view trustee.old ≡ trustee_of (first_of (sample (record { by = 4 }))) }
+{
+    assert!(rt; comes_empty(once_round(table, client, trustee, 0, 1)));
+}
+
 /// A grant by one client reaches another.
 fn gift_goes<P: PairTable<Less>>(
     rt: &impl Abort,
@@ -100,6 +116,14 @@ fn one_place_call_by_call(rt: HostRuntime) -> Result<(), Fail> {
     let (mut table, mut clients, mut trustee) = start(rt.alloc())?;
     let mut client = clients.remove(0);
     one_place(&rt, &mut table, &mut client, &mut trustee);
+    Ok(())
+}
+
+#[test]
+fn a_round_of_nothing_comes_back(rt: HostRuntime) -> Result<(), Fail> {
+    let (mut table, mut clients, mut trustee) = start(rt.alloc())?;
+    let mut client = clients.remove(0);
+    round_goes(&rt, &mut table, &mut client, &mut trustee);
     Ok(())
 }
 

@@ -78,6 +78,17 @@ pub(super) fn are_replies(found: Collected<Less>, first: u64, second: u64) -> bo
     }
 }
 
+/// Whether an answer batch came with nothing in it, as the first entry of the log.
+pub(super) fn comes_empty(found: Collected<Less>) -> bool {
+    match found {
+        Collected::Answers(came) => {
+            let nothing = came.answers.is_empty() && came.gifts.is_empty();
+            nothing && came.completions.is_empty() && came.front == 1
+        }
+        _ => false,
+    }
+}
+
 /// Whether the object came as a gift and nothing else.
 pub(super) fn is_one_gift(found: Collected<Less>) -> bool {
     match found {
