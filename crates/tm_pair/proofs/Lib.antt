@@ -1,5 +1,7 @@
+mod Handing
 mod Nothing
 mod Opening
 mod Returning
+mod Sampling
 mod Stepping
 mod Tabling

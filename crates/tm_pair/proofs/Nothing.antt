@@ -22,7 +22,8 @@ use Rattle.tm_model.specs.Entries.{added}
 use Rattle.tm_pair.specs.Views.{ClientView, TrusteeView, hand_of}
 use Rattle.tm_pair.specs.Calls.{SeesNothing, Takes, HasAnswered}
 use Rattle.tm_pair.specs.Sides.{IsGoodClient, IsGoodTrustee}
-use Rattle.tm_pair.specs.Rounds.{NothingWaits, AnswersNothing}
+use Rattle.tm_pair.specs.Rounds.{NothingWaits, AnswersNothing, AnswersFound}
+use Rattle.tm_pair.proofs.Handing.{hand_in_range, hand_answered, batch_taken}
 
 nil_is_not_joined : {X : Type 0} (before after : List X) (x : X) → [] ≡ before ++ x ∷ after → ⊥
 nil_is_not_joined [] after x e = cc
@@ -82,26 +83,23 @@ module _ {V O R T : Type 0} (kind : Kind V O R T) (opening : State V O R T) wher
       → hand_of old c ≡ Some (record { requests = []; room = room }) → HasAnswered c [] a old new → AnswersNothing c old new
   nothing_answered c room a old new good lt is has =
       let most = (good.in_hand c _ is).most_gifts in
-      let there : c < length old.hands = subst (λ n. c < n) (sym good.hands) lt in record {
+      let there = hand_in_range kind opening c old good lt in record {
         log = (
           room,
           most,
           subst (λ o. IsSomeAnd o (λ hand. new.log ≡ old.log ++ added old.log [] c hand.requests hand.room a.answers.items)) is has.log,
         );
-        hand = ap (λ hands. slice_index_or hands c None) has.hands ∙ get_or-set_same old.hands c None None there;
+        hand = hand_answered c [] a old new there has;
       }
 
   pub nothing_taken :
       (c : ℕ) (seen : Option (Batch V O R T)) (old new : TrusteeView V O R T) → IsGoodTrustee kind opening old → c < place_count opening.setup
       → MatchOption seen (SeesNothing c old new) (λ b. Takes kind opening c b.requests.items b.room old new) → IsSomeAnd seen (λ b. b.requests.items ≡ [])
       → (room : ℕ) × (hand_of new c ≡ Some (record { requests = []; room = room }))
-  nothing_taken c None old new good lt sees some = absurd some
-  nothing_taken c (Some b) old new good lt takes none =
-      let there : c < length old.hands = subst (λ n. c < n) (sym good.hands) lt in (
+  nothing_taken c seen old new good lt sees some =
+      let (b, none, is) = batch_taken kind opening c seen (λ b. b.requests.items ≡ []) old new (hand_in_range kind opening c old good lt) sees some in (
         b.room,
-        ap (λ hands. slice_index_or hands c None) takes.hands
-            ∙ get_or-set_same old.hands c (Some (record { requests = b.requests.items; room = b.room })) None there
-            ∙ ap (λ r. Some (record { requests = r; room = b.room })) none,
+        is ∙ ap (λ r. Some (record { requests = r; room = b.room })) none,
       )
 
   pub seeing_keeps_log :
@@ -114,3 +112,27 @@ module _ {V O R T : Type 0} (kind : Kind V O R T) (opening : State V O R T) wher
       (c : ℕ) (old mid new : TrusteeView V O R T) → mid.log ≡ old.log → AnswersNothing c mid new → AnswersNothing c old new
   nothing_answered_behind c old mid new same has =
       let (room, most, log) = has.log in record { log = (room, most, log ∙ ap (λ l. l ++ Sent c room ∷ []) same); hand = has.hand }
+
+  -- what was found was answered
+  pub found_answered :
+      (c : ℕ) (seen : Option (Batch V O R T)) (old mid new : TrusteeView V O R T)
+      → MatchOption seen (SeesNothing c old mid) (λ b. Takes kind opening c b.requests.items b.room old mid)
+      → IsSomeAnd seen (λ b. b.requests.items ≡ []) → new.looks ≡ mid.looks → AnswersNothing c old new → AnswersFound c seen old new
+  found_answered c None old mid new sees some looks has = absurd some
+  found_answered c (Some b) old mid new takes none looks has = (looks ∙ takes.looks, λ _. has, λ ne. absurd (ne none))
+
+  -- nothing was found, or what was found asks something
+  pub found_kept :
+      (c : ℕ) (seen : Option (Batch V O R T)) (old new : TrusteeView V O R T) → c < length old.hands
+      → MatchOption seen (SeesNothing c old new) (λ b. Takes kind opening c b.requests.items b.room old new)
+      → ¬ IsSomeAnd seen (λ b. b.requests.items ≡ []) → AnswersFound c seen old new
+  found_kept c None old new lt sees asks = sees
+  found_kept c (Some b) old new lt takes asks = (
+    takes.looks,
+    λ e. absurd (asks e),
+    λ ne. (
+      takes.log,
+      ap (λ hands. slice_index_or hands c None) takes.hands
+          ∙ get_or-set_same old.hands c (Some (record { requests = b.requests.items; room = b.room })) None lt,
+    ),
+  )

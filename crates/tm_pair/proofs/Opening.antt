@@ -4,20 +4,17 @@ use Rattle.std.proofs.Math.ListN.{length-replicate, get_or-replicate, get_or-app
 use Rattle.std.proofs.Math.Seq.{get_or-append_seam}
 use Rattle.std.proofs.lemmas.Bool.{cases_eq}
 use Rattle.tm_seq.specs.Kind.{Kind}
-use Rattle.tm_batch.specs.declared.config.Config.{Config}
-use Rattle.tm_batch.specs.declared.config.First.{First}
-use Rattle.tm_model.specs.State.{place_count}
-use Rattle.tm_model.specs.Opening.{IsBuildable, opening_of}
+use Rattle.tm_model.specs.Opening.{IsBuildable}
 use Rattle.tm_model.specs.Slots.{no_slot, slot_of, first_core}
 use Rattle.tm_model.specs.Good.{FullCore}
-use Rattle.tm_model.specs.Laws.{IsOpening, first_of}
+use Rattle.tm_model.specs.Laws.{IsOpening}
 use Rattle.tm_core.proofs.First.{first_is_good}
 use Rattle.tm_pair.specs.Stands.{client_of, trustee_of}
 use Rattle.tm_pair.specs.Moves.{core_after}
 use Rattle.tm_pair.specs.Places.{IsNewPlace}
 use Rattle.tm_pair.specs.Shown.{ShowsCore}
-use Rattle.tm_pair.specs.Plain.{opening_at, core_at, client_at, IsTable, IsClientOf}
-use Rattle.tm_pair.specs.Opened.{AreNewPlaces, IsNewClient, AreNewClients, IsFirstClient, IsOpened}
+use Rattle.tm_pair.specs.Plain.{opening_at, core_at, IsTable}
+use Rattle.tm_pair.specs.Opened.{AreNewPlaces, IsNewClient, AreNewClients, IsOpened}
 use Rattle.tm_pair.specs.declared.moves.Move.TheVariants.{Open}
 use Rattle.tm_pair.specs.declared.place.Place.{Place}
 use Rattle.tm_pair.specs.declared.plain.PlainTable.{PlainTable}

@@ -1,19 +1,16 @@
 -- What comes back to a side that had nothing out and asked nothing.
-use Rattle.std.proofs.Common.{◌≡◌, ℕ, ◌+◌, ◌≤◌, ◌⊎◌, false, true, List, [], ◌∷◌, ◌++◌, length, inl, inr, refl, sym, ◌∙◌, ap, subst, arith, append-nil, length-append}
-use Rattle.std.specs.Prelude.{IsSomeAnd}
-use Rattle.std.specs.declared.option.Option.{Option}
+use Rattle.std.proofs.Common.{◌≡◌, ℕ, ◌≤◌, false, true, List, [], ◌∷◌, ◌++◌, length, refl, sym, ◌∙◌, ap, subst, arith, append-nil, length-append}
 use Rattle.std.specs.declared.option.Option.TheVariants.{None, Some}
 use Rattle.tm_seq.specs.Kind.{Kind}
-use Rattle.tm_batch.specs.declared.batch.Batch.{Batch}
 use Rattle.tm_batch.specs.declared.message.Request.{Request}
 use Rattle.tm_batch.specs.declared.message.AnswerBatch.{AnswerBatch}
 use Rattle.tm_model.specs.declared.entry.Entry.{Entry}
 use Rattle.tm_model.specs.declared.entry.Entry.TheVariants.{Sent}
-use Rattle.tm_model.specs.State.{State, place_count, place_of}
+use Rattle.tm_model.specs.State.{State, place_count}
 use Rattle.tm_model.specs.Slots.{looked}
 use Rattle.tm_model.specs.Ran.{mark_of, ran}
 use Rattle.tm_model.specs.Entries.{batch_entries}
-use Rattle.tm_model.specs.Holds.{launches_in, spent_in, ended_in}
+use Rattle.tm_model.specs.Holds.{launches_in, ended_in}
 use Rattle.tm_core.proofs.First.{opening_unfinished}
 use Rattle.tm_core.proofs.LaunchLog.{log_launches}
 use Rattle.tm_core.proofs.Marks.{ran-append}
@@ -21,9 +18,9 @@ use Rattle.tm_core.proofs.Numbering.{opening_place}
 use Rattle.tm_core.proofs.Ordered.{opening_ordered}
 use Rattle.tm_core.proofs.Tallies.{ended_in-append}
 use Rattle.tm_pair.specs.Views.{ClientView}
-use Rattle.tm_pair.specs.Calls.{Publishes, AreAnswers, Gets, Collects}
+use Rattle.tm_pair.specs.Calls.{Publishes, Gets, Collects}
 use Rattle.tm_pair.specs.Sides.{HasRun, IsGoodClient}
-use Rattle.tm_pair.specs.Rounds.{AwaitsNothing, GetsNothing, FindsNothing}
+use Rattle.tm_pair.specs.Rounds.{GetsNothing, FindsNothing}
 use Rattle.tm_pair.specs.declared.table.Collected.{Collected}
 use Rattle.tm_pair.specs.declared.table.Collected.TheVariants.{Answers, Pending, Idle}
 
@@ -34,18 +31,6 @@ none (x ∷ l) h = let no : ⊥ = omega (arith, h) in absurd no
 -- what joins a list to itself is empty
 same_join : {X : Type 0} (l m : List X) → l ≡ l ++ m → m ≡ []
 same_join l m e = let n : length l ≡ length (l ++ m) = ap (λ x. length x) e in let joined = length-append l m in none m (omega (arith, n, joined))
-
-empty_or : {X A B : Type 0} (l : List X) → (l ≡ [] → A) → (¬ (l ≡ []) → B) → B ⊎ A
-empty_or [] then else = inr (then refl)
-empty_or (x ∷ l) then else = inl (else (λ e. absurd cc))
-
-module _ {V O R T : Type 0} where
-  -- a batch was found that has no request, or not
-  pub nothing_or :
-      {A B : Type 0} (seen : Option (Batch V O R T)) → (IsSomeAnd seen (λ b. b.requests.items ≡ []) → A) → (¬ IsSomeAnd seen (λ b. b.requests.items ≡ []) → B)
-      → B ⊎ A
-  nothing_or None then else = inl (else (λ h. h))
-  nothing_or (Some b) then else = empty_or b.requests.items then else
 
 module _ {V O R T : Type 0} (kind : Kind V O R T) (opening : State V O R T) where
   -- a side with nothing out has seen all that it sent run

@@ -1,8 +1,8 @@
 -- What each step of a core does to what its sides stand for.
-use Rattle.std.proofs.Common.{◌≡◌, ◌≢◌, ℕ, ◌+◌, ◌<◌, Bool, true, false, List, [], ◌∷◌, ◌++◌, length, map, slice_index_or, slice_set, inl, inr, refl, sym, ◌∙◌, ap, subst, get_or-set_same, get_or-set_other}
+use Rattle.std.proofs.Common.{◌≡◌, ◌≢◌, ℕ, ◌<◌, Bool, true, false, List, ◌++◌, length, map, slice_set, inl, inr, refl, sym, ◌∙◌, ap, subst, get_or-set_same, get_or-set_other}
 use Rattle.std.specs.Prelude.{IsSomeAnd, MatchOption}
 use Rattle.std.specs.declared.option.Option.{Option}
-use Rattle.std.specs.declared.option.Option.TheVariants.{None, Some}
+use Rattle.std.specs.declared.option.Option.TheVariants.{Some}
 use Rattle.std.proofs.Math.ListN.{get_or-map}
 use Rattle.std.proofs.Math.Seq.{map-set_same}
 use Rattle.std.proofs.lemmas.List.{map-set}
@@ -13,18 +13,18 @@ use Rattle.tm_batch.specs.declared.message.Request.{Request}
 use Rattle.tm_batch.specs.declared.message.AnswerBatch.{AnswerBatch}
 use Rattle.tm_model.specs.declared.entry.Entry.{Entry}
 use Rattle.tm_model.specs.State.{State}
-use Rattle.tm_model.specs.Slots.{Empty, Asked, Taken, Answered, no_slot, slot_of, with_slot, MayPublish, publish, published, see, taken, is_asked, looked, answered, collect, collected, is_answered}
+use Rattle.tm_model.specs.Slots.{Empty, Asked, Taken, Answered, no_slot, slot_of, with_slot, publish, published, see, taken, is_asked, looked, answered, collect, collected, is_answered}
 use Rattle.tm_model.specs.Good.{FullBox, FullSlot, FullCore, IsOutInOrder}
 use Rattle.tm_model.specs.Entries.{added}
 use Rattle.tm_model.specs.Answering.{answer_with}
 use Rattle.tm_model.specs.Laws.{IsTold}
-use Rattle.tm_pair.specs.Views.{ClientView, Hand, TrusteeView, hand_of, looks_at}
+use Rattle.tm_pair.specs.Views.{Hand, hand_of, looks_at}
 use Rattle.tm_pair.specs.Calls.{Publishes, Collects, SeesNothing, Takes, HasAnswered}
 use Rattle.tm_pair.specs.Stands.{room_out, hand_in, client_of, trustee_of}
 use Rattle.tm_pair.specs.Shown.{ShowsBox}
 use Rattle.tm_pair.specs.Places.{Gave, Found}
 use Rattle.tm_pair.specs.declared.table.Collected.{Collected}
-use Rattle.tm_pair.specs.declared.table.Collected.TheVariants.{Answers, Pending, Idle}
+use Rattle.tm_pair.specs.declared.table.Collected.TheVariants.{Answers}
 use Rattle.tm_pair.specs.declared.place.Content.{Content}
 use Rattle.tm_pair.specs.declared.place.Content.TheVariants.{Empty as Free, Asked as Out, Taken as InHand, Answered as Back}
 

@@ -4,6 +4,7 @@ pub mod Opened
 pub mod Places
 pub mod Plain
 pub mod Rounds
+pub mod Sample
 pub mod Shown
 pub mod Sides
 pub mod Standing

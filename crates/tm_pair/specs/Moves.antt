@@ -1,5 +1,5 @@
 -- What a list of calls at a table leaves of its slots and its log.
-use Rattle.std.specs.Prelude.{ℕ, List, [], ◌∷◌, ◌++◌}
+use Rattle.std.specs.Prelude.{ℕ, List, [], ◌∷◌}
 use Rattle.tm_batch.specs.declared.message.AnswerBatch.{AnswerBatch}
 use Rattle.tm_model.specs.declared.entry.Entry.{Entry}
 use Rattle.tm_model.specs.Slots.{Empty, Asked, Taken, Answered, slot_of, first_core, publish, see, collect}

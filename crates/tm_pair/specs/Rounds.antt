@@ -1,6 +1,8 @@
 -- What one round of a batch through a table finds.
-use Rattle.std.specs.Prelude.{◌≡◌, ℕ, ◌≤◌, true, false, List, [], ◌∷◌, ◌++◌}
+use Rattle.std.specs.Prelude.{◌≡◌, ◌≢◌, ℕ, ◌≤◌, true, false, List, [], ◌∷◌, ◌++◌}
+use Rattle.std.specs.declared.option.Option.{Option}
 use Rattle.std.specs.declared.option.Option.TheVariants.{None, Some}
+use Rattle.tm_batch.specs.declared.batch.Batch.{Batch}
 use Rattle.tm_batch.specs.declared.message.AnswerBatch.{AnswerBatch}
 use Rattle.tm_model.specs.declared.entry.Entry.{Entry}
 use Rattle.tm_model.specs.declared.entry.Entry.TheVariants.{Sent}
@@ -9,6 +11,7 @@ use Rattle.tm_model.specs.Slots.{looked}
 use Rattle.tm_model.specs.Ran.{ran}
 use Rattle.tm_model.specs.Holds.{launches_in, ended_in}
 use Rattle.tm_pair.specs.Views.{ClientView, TrusteeView, hand_of}
+use Rattle.tm_pair.specs.Calls.{LooksAt, SeesNothing}
 use Rattle.tm_pair.specs.declared.table.Collected.{Collected}
 use Rattle.tm_pair.specs.declared.table.Collected.TheVariants.{Answers, Pending, Idle}
 
@@ -22,6 +25,14 @@ module _ {V O R T : Type 0} where
   pub record AnswersNothing (c : ℕ) (old new : TrusteeView V O R T) : Type 0 where
     pub log : (room : ℕ) × (room ≤ 16) × (new.log ≡ old.log ++ Sent c room ∷ [])
     pub hand : hand_of new c ≡ None
+
+  -- the trustee looked once at place c: it answered a batch that it found and that asked nothing, and one that asked something is in hand
+  abbrev pub AnswersFound : ℕ → Option (Batch V O R T) → TrusteeView V O R T → TrusteeView V O R T → Type 0
+  AnswersFound c None old new = SeesNothing c old new
+  AnswersFound c (Some b) old new =
+      LooksAt c true old new
+      × (b.requests.items ≡ [] → AnswersNothing c old new)
+      × (b.requests.items ≢ [] → (new.log ≡ old.log) × (hand_of new c ≡ Some (record { requests = b.requests.items; room = b.room })))
 
   -- a side asked nothing, and has no answer yet
   pub record AwaitsNothing (old new : ClientView V O R T) : Type 0 where

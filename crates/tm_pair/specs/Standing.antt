@@ -1,19 +1,19 @@
 -- The sides of a good core are good.
-use Rattle.std.proofs.Common.{◌≡◌, ℕ, ◌<◌, ◌≤◌, List, ◌++◌, length, map, slice_index_or, inl, inr, refl, sym, ◌∙◌, ap, subst}
+use Rattle.std.proofs.Common.{◌≡◌, ℕ, ◌<◌, List, length, inl, inr, refl, sym, ◌∙◌, ap, subst}
 use Rattle.std.specs.declared.option.Option.TheVariants.{None, Some}
 use Rattle.std.proofs.Math.ListN.{get_or-map}
 use Rattle.std.proofs.lemmas.List.{length-map, get_or_past}
 use Rattle.std.proofs.lemmas.Bool.{cases_lt}
 use Rattle.tm_seq.specs.Kind.{Kind}
 use Rattle.tm_model.specs.declared.entry.Entry.{Entry}
-use Rattle.tm_model.specs.State.{State, place_count}
+use Rattle.tm_model.specs.State.{State}
 use Rattle.tm_model.specs.Legal.{IsLegal}
 use Rattle.tm_model.specs.Slots.{Empty, Asked, Taken, Answered, no_slot, slot_of}
 use Rattle.tm_model.specs.GoodSlots.{HasSeen}
 use Rattle.tm_model.specs.Good.{FullBox, FullSlot, FullCore, IsGood, IsOutInOrder}
 use Rattle.tm_model.specs.Ran.{mark_of, ran}
 use Rattle.tm_model.specs.Batches.{batches}
-use Rattle.tm_model.specs.Laws.{IsOpening, IsTold}
+use Rattle.tm_model.specs.Laws.{IsOpening}
 use Rattle.tm_core.proofs.Promised.{batches_are_told}
 use Rattle.tm_pair.specs.Views.{Hand, hand_of}
 use Rattle.tm_pair.specs.Sides.{HasRun, IsGoodClient, IsGoodHand, IsGoodTrustee}

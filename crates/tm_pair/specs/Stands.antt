@@ -1,8 +1,8 @@
 -- What the sides of a core stand for.
-use Rattle.std.specs.Prelude.{ℕ, List, map}
+use Rattle.std.specs.Prelude.{ℕ, map}
 use Rattle.std.specs.declared.option.Option.{Option}
 use Rattle.std.specs.declared.option.Option.TheVariants.{None, Some}
-use Rattle.tm_model.specs.Slots.{Empty, Asked, Taken, Answered, slot_of}
+use Rattle.tm_model.specs.Slots.{Empty, Asked, Taken, Answered}
 use Rattle.tm_model.specs.Good.{FullBox, FullSlot, FullCore}
 use Rattle.tm_pair.specs.Views.{ClientView, Hand, TrusteeView}
 

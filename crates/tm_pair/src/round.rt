@@ -1,11 +1,13 @@
 //! One round of an empty batch through any table.
-ghost use Rattle.std.specs.Prelude.{◌≡◌, ℕ, ◌+◌, ◌-◌, ◌^◌, ◌<◌, ◌↔◌, ◌⊎◌, min, List, [], length, IsTrue, IsOk, OnOk, OnErr, IsSomeAnd};
+ghost use Rattle.std.specs.Prelude.{◌≡◌, ◌≢◌, ℕ, ◌+◌, ◌-◌, ◌^◌, ◌<◌, ◌↔◌, min, List, [], length, IsTrue, IsOk, OnOk, OnErr, IsSomeAnd};
+ghost use Rattle.std.specs.declared.option.Option.{Option};
 ghost use Rattle.std.specs.declared.option.Option.TheVariants.{None, Some};
+ghost use Rattle.tm_batch.specs.declared.batch.Batch.{Batch};
 ghost use Rattle.tm_model.specs.State.{State, place_count};
 ghost use Rattle.tm_model.specs.Serve.{state_after};
 ghost use Rattle.tm_pair.specs.Views.{ClientView, Hand, TrusteeView, hand_of};
 ghost use Rattle.tm_pair.specs.Calls.{Publishes};
-ghost use Rattle.tm_pair.specs.Rounds.{NothingWaits, AnswersNothing, FindsNothing};
+ghost use Rattle.tm_pair.specs.Rounds.{NothingWaits, AnswersNothing, AnswersFound, FindsNothing};
 
 use crate::small_batch::SmallBatch;
 use crate::table::{Collected, Held, PairTable};
@@ -25,6 +27,7 @@ pub fn ask_nothing<S: Entrusted, P: PairTable<S>>(
     ensures err { OnErr result (P.client_view side.new ≡ P.client_view side.old) }
     ensures mine { P.HasClient table.new side.new }
     ensures opening { P.opening table.new ≡ P.opening table.old }
+    ensures clients { (other : P.ClientSide) → (P.client_view other).place ≢ (P.client_view side.old).place → P.HasClient table.old other → P.HasClient table.new other }
     ensures trustee { (other : P.TrusteeSide) → P.HasTrustee table.old other → P.HasTrustee table.new other }
 {
     table.publish(side, Batch::new(0))
@@ -53,6 +56,7 @@ fn answer_empty<S: Small, P: PairTable<S>>(
     requires waits { NothingWaits (state_after S.kind (P.opening table.old) (P.trustee_view side.old).log) client }
     requires front { front ≡ min (length (P.trustee_view side.old).log + 1) (2 ^ 64 - 1) }
     ensures answers { AnswersNothing client (P.trustee_view side.old) (P.trustee_view side.new) }
+    ensures looks { (P.trustee_view side.new).looks ≡ (P.trustee_view side.old).looks }
     ensures mine { P.HasTrustee table.new side.new }
     ensures opening { P.opening table.new ≡ P.opening table.old }
     ensures clients { (other : P.ClientSide) → P.HasClient table.old other → P.HasClient table.new other }
@@ -79,6 +83,7 @@ pub fn answer_nothing<S: Small, P: PairTable<S>>(
     requires waits { NothingWaits (state_after S.kind (P.opening table.old) (P.trustee_view side.old).log) client }
     requires front { front ≡ min (length (P.trustee_view side.old).log + 1) (2 ^ 64 - 1) }
     ensures answers { IsSomeAnd result (λ b. b.requests.items ≡ []) → AnswersNothing client (P.trustee_view side.old) (P.trustee_view side.new) }
+    ensures found { AnswersFound client result (P.trustee_view side.old) (P.trustee_view side.new) }
     ensures log { ¬ IsSomeAnd result (λ b. b.requests.items ≡ []) → (P.trustee_view side.new).log ≡ (P.trustee_view side.old).log }
     ensures mine { P.HasTrustee table.new side.new }
     ensures opening { P.opening table.new ≡ P.opening table.old }
@@ -98,6 +103,7 @@ fn ask_free<S: SmallBatch, P: PairTable<S>>(table: &mut P, side: &mut P::ClientS
     ensures asks { Publishes [] 0 (P.client_view side.old) (P.client_view side.new) }
     ensures mine { P.HasClient table.new side.new }
     ensures opening { P.opening table.new ≡ P.opening table.old }
+    ensures clients { (other : P.ClientSide) → (P.client_view other).place ≢ (P.client_view side.old).place → P.HasClient table.old other → P.HasClient table.new other }
     ensures trustee { (other : P.TrusteeSide) → P.HasTrustee table.old other → P.HasTrustee table.new other }
 {
     let _ = ask_nothing(table, side);
@@ -115,7 +121,7 @@ fn answer_free<S: SmallBatch, P: PairTable<S>>(
     requires free { hand_of (P.trustee_view side.old) client ≡ None }
     requires waits { NothingWaits (state_after S.kind (P.opening table.old) (P.trustee_view side.old).log) client }
     requires front { front ≡ min (length (P.trustee_view side.old).log + 1) (2 ^ 64 - 1) }
-    ensures log { ((P.trustee_view side.new).log ≡ (P.trustee_view side.old).log) ⊎ AnswersNothing client (P.trustee_view side.old) (P.trustee_view side.new) }
+    ensures found { (seen : Option (Batch S S.Op S.Reply S.Task)) × AnswersFound client seen (P.trustee_view side.old) (P.trustee_view side.new) }
     ensures mine { P.HasTrustee table.new side.new }
     ensures opening { P.opening table.new ≡ P.opening table.old }
     ensures clients { (other : P.ClientSide) → P.HasClient table.old other → P.HasClient table.new other }
@@ -142,10 +148,11 @@ pub fn once_round<S: SmallBatch, P: PairTable<S>>(
     requires waits { NothingWaits (state_after S.kind (P.opening table.old) (P.trustee_view trustee.old).log) place }
     requires front { front ≡ min (length (P.trustee_view trustee.old).log + 1) (2 ^ 64 - 1) }
     ensures finds { FindsNothing (P.client_view client.old) (P.client_view client.new) result }
-    ensures log { ((P.trustee_view trustee.new).log ≡ (P.trustee_view trustee.old).log) ⊎ AnswersNothing place (P.trustee_view trustee.old) (P.trustee_view trustee.new) }
+    ensures found { (seen : Option (Batch S S.Op S.Reply S.Task)) × AnswersFound place seen (P.trustee_view trustee.old) (P.trustee_view trustee.new) }
     ensures client { P.HasClient table.new client.new }
     ensures trustee { P.HasTrustee table.new trustee.new }
     ensures opening { P.opening table.new ≡ P.opening table.old }
+    ensures clients { (other : P.ClientSide) → (P.client_view other).place ≢ place → P.HasClient table.old other → P.HasClient table.new other }
 {
     ask_free(table, client);
     answer_free(table, trustee, place, front);

@@ -2,6 +2,7 @@ use Rattle.std.proofs.Common.{◌≡◌, ◌+◌, ◌-◌, ◌^◌, ◌<◌, tru
 use Rattle.tm_model.specs.State.{place_count}
 use Rattle.tm_model.specs.Serve.{state_after}
 use Rattle.tm_pair.specs.Rounds.{NothingWaits}
+use Rattle.tm_pair.proofs.Handing.{hand_in_range}
 use Rattle.tm_pair.proofs.Nothing as nothing
 use Rattle.tm_pair.proofs.round.answer_nothing.Goals as goal
 
@@ -41,3 +42,26 @@ returns-then-is_nothing-clause-clients g c = λ other mine. c.answer_empty.ensur
 
 pub returns-else-is_nothing-clause-answers : goal.returns-else-is_nothing-clause-answers
 returns-else-is_nothing-clause-answers g c = λ some. let e : false ≡ true = sym c.if-is_nothing.false ∙ c.is_nothing.ensures.1 some in absurd cc
+
+pub returns-then-is_nothing-clause-found : goal.returns-then-is_nothing-clause-found
+returns-then-is_nothing-clause-found g c =
+    let kind = g.S.Entrusted.kind in
+    let opening = g.P.PairTable.opening c.args.table.now in
+    let old = g.P.PairTable.trustee_view c.args.side.now in
+    let mid = g.P.PairTable.trustee_view c.see-seen.new.side in
+    let new = g.P.PairTable.trustee_view c.answer_empty.new.side in
+    let log = nothing.seeing_keeps_log kind opening c.args.client c.see-seen.result old mid c.see-seen.ensures.sees in
+    let has = nothing.nothing_answered_behind kind opening c.args.client old mid new log c.answer_empty.ensures.answers in
+    nothing.found_answered kind opening c.args.client c.see-seen.result old mid new c.see-seen.ensures.sees (c.is_nothing.ensures.0 c.if-is_nothing.true)
+    c.answer_empty.ensures.looks has
+
+pub returns-else-is_nothing-clause-found : goal.returns-else-is_nothing-clause-found
+returns-else-is_nothing-clause-found g c =
+    let kind = g.S.Entrusted.kind in
+    let opening = g.P.PairTable.opening c.args.table.now in
+    let old = g.P.PairTable.trustee_view c.args.side.now in
+    let new = g.P.PairTable.trustee_view c.see-seen.new.side in
+    let good = g.met.P.PairTable.trustee_is_good c.args.table.now c.args.side.now c.requires.mine in
+    let there = hand_in_range kind opening c.args.client old good c.requires.in_range in
+    nothing.found_kept kind opening c.args.client c.see-seen.result old new there c.see-seen.ensures.sees
+    (λ some. let e : false ≡ true = sym c.if-is_nothing.false ∙ c.is_nothing.ensures.1 some in absurd cc)

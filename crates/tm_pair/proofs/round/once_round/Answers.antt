@@ -1,4 +1,4 @@
-use Rattle.std.proofs.Common.{◌<◌, sym, ◌∙◌, ap, subst}
+use Rattle.std.proofs.Common.{◌<◌, sym, ◌∙◌, subst}
 use Rattle.tm_model.specs.State.{place_count}
 use Rattle.tm_pair.specs.Sides.{IsGoodClient}
 use Rattle.tm_pair.proofs.Returning.{finds_nothing}
@@ -31,3 +31,8 @@ returns-clause-finds g c =
 
 pub returns-clause-trustee : goal.returns-clause-trustee
 returns-clause-trustee g c = c.collect.ensures.trustee _ c.answer_free.ensures.mine
+
+pub returns-clause-clients : goal.returns-clause-clients
+returns-clause-clients g c = λ other ne has.
+    let asked = c.ask_free.ensures.clients other (λ e. ne (e ∙ c.requires.place)) has in
+    c.collect.ensures.clients other (λ e. ne (e ∙ c.ask_free.ensures.asks.place ∙ c.requires.place)) (c.answer_free.ensures.clients other asked)
