@@ -1,0 +1,6 @@
+pub mod Holding
+pub mod Standing
+pub mod Asking
+pub mod Opened
+pub mod Placed
+pub mod Driving
