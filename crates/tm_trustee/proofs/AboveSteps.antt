@@ -1,0 +1,245 @@
+-- The moves at the sides above, one after another.
+use Rattle.std.proofs.Common.{◌≡◌, ◌≢◌, ℕ, zero, suc, ◌+◌, ◌<◌, ◌≤◌, ◌⊎◌, inl, inr, Bool, true, false, cond, List, [], ◌∷◌, length, map, refl, sym, ◌∙◌, ap, subst, add_assoc, arith, length-set}
+use mir.Val.{bool_byte}
+use Rattle.std.specs.Prelude.{slice_get, slice_set}
+use Rattle.std.specs.declared.option.Option.TheVariants.{Some}
+use Rattle.std.proofs.lemmas.List.{length-map, map-set}
+use Rattle.std.proofs.lemmas.Option.{slice_get_within}
+use Rattle.tm_model.specs.State.{State}
+use Rattle.tm_pair.specs.Views.{ClientView}
+use Rattle.tm_trustee.specs.Above.{IsAt, moves_up, all_moves_up, Each, IsAbove}
+use Rattle.tm_trustee.specs.AboveAt.{MovesUp, MovesAt}
+use Rattle.tm_trustee.specs.Tables.{AreAmong, KeepsAbove}
+use Rattle.tm_trustee.specs.declared.stage.Stage.{Stage}
+use Rattle.tm_trustee.proofs.AboveLists.{set_cases, set_other, same_element, mapped_from, mapped}
+
+shifted : (a b d rest : ℕ) → b ≡ 0 → a ≡ d → a + rest ≡ (b + rest) + d
+shifted a b d rest none is = omega arith
+
+one_more : (answer : Bool) (m i : ℕ) → m ≤ i → m + cond answer 1 0 ≤ i + 1
+one_more true m i le = omega arith
+one_more false m i le = omega arith
+
+-- a `bool` as a number
+pub as_count : (answer : Bool) (n : ℕ) → n ≡ bool_byte answer → n ≡ cond answer 1 0
+as_count true n e = e
+as_count false n e = e
+
+module _ {V O R T : Type 0} where
+  stays : (view : ClientView V O R T) → moves_up view view ≡ 0
+  stays view = omega arith
+
+  all_stay : (views : List (ClientView V O R T)) → all_moves_up views views ≡ 0
+  all_stay [] = refl
+  all_stay (view ∷ views) = ap (λ n. n + all_moves_up views views) (stays view) ∙ (let h = all_stay views in omega arith)
+
+  -- where a side had not moved, all have moved by as much more as it moves
+  one_moves :
+      (olds news : List (ClientView V O R T)) (i : ℕ) (old new : ClientView V O R T) → slice_get olds i ≡ Some old → slice_get news i ≡ Some old
+      → all_moves_up olds (slice_set news i new) ≡ all_moves_up olds news + moves_up old new
+  one_moves [] news i old new eo en = absurd cc
+  one_moves (o ∷ olds) [] i old new eo en = absurd cc
+  one_moves (o ∷ olds) (n ∷ news) zero old new eo en =
+      let first : o ≡ old = cc in
+      let second : n ≡ old = cc in
+      let none : moves_up o n ≡ 0 = ap (λ v. moves_up v n) first ∙ ap (λ v. moves_up old v) second ∙ stays old in
+      shifted (moves_up o new) (moves_up o n) (moves_up old new) (all_moves_up olds news) none (ap (λ v. moves_up v new) first)
+  one_moves (o ∷ olds) (n ∷ news) (suc i) old new eo en =
+      ap (λ t. moves_up o n + t) (one_moves olds news i old new eo en) ∙ sym (add_assoc (moves_up o n) (all_moves_up olds news) (moves_up old new))
+
+module _ {V O R T Table Client Owner : Type 0} (opening_at : Table → State V O R T) (client_view : Client → ClientView V O R T)
+    (HasClient : Table → Client → Type 0) (HasTrustee : Table → Owner → Type 0)
+    (Goes : ClientView V O R T → ClientView V O R T → Type 0) where
+  -- the sides below i moved, and the others are as they were
+  pub record HasMoved (from i : ℕ) (old new : List Table) (stages stages_new : List Stage) (above above_new : List Client) (moved : ℕ) : Type 0 where
+    pub as_many : length above_new ≡ length above
+    pub below : (k : ℕ) (before after : Client) → k < i → slice_get above k ≡ Some before → slice_get above_new k ≡ Some after
+        → Goes (client_view before) (client_view after)
+    pub rest : (k : ℕ) → i ≤ k → slice_get above_new k ≡ slice_get above k
+    pub counts : moved ≡ all_moves_up (map client_view above) (map client_view above_new)
+    pub most : moved ≤ i
+    pub is_above : (place : ℕ) → IsAbove place stages (map client_view above) → IsAbove place stages_new (map client_view above_new)
+    pub among : AreAmong opening_at client_view HasClient HasTrustee new from above_new
+    pub keeps : (place : ℕ) → IsAbove place stages (map client_view above) → KeepsAbove opening_at client_view HasClient HasTrustee old new from place
+
+  pub none_moved :
+      (from : ℕ) (tables : List Table) (stages : List Stage) (above : List Client) → AreAmong opening_at client_view HasClient HasTrustee tables from above
+      → HasMoved from 0 tables tables stages stages above above 0
+  none_moved from tables stages above among = record {
+    as_many = refl;
+    below = λ k before after lt eb ea. absurd (omega arith);
+    rest = λ k le. refl;
+    counts = sym (all_stay (map client_view above));
+    most = omega arith;
+    is_above = λ place is. is;
+    among = among;
+    keeps = λ place is. record {
+      as_many = refl;
+      lower = λ t lt. refl;
+      openings = λ t was becomes ew en. ap (λ x. opening_at x) (same_element tables t was becomes ew en);
+      clients = λ t was becomes ew en other ne has. subst (λ x. HasClient x other) (sym (same_element tables t was becomes ew en)) has;
+      trustees = λ t was becomes ew en other has. subst (λ x. HasTrustee x other) (sym (same_element tables t was becomes ew en)) has;
+    };
+  }
+
+  module _
+      (from i : ℕ) (old mid : List Table) (stages stages_mid : List Stage) (above above_mid : List Client) (moved : ℕ)
+      (done : HasMoved from i old mid stages stages_mid above above_mid moved)
+      (was becomes : Table) (before after : Client) (stage : Stage) (answer : Bool)
+      (of_table : slice_get mid (from + i) ≡ Some was) (of_side : slice_get above_mid i ≡ Some before)
+      (moves : MovesUp opening_at client_view HasClient HasTrustee Goes was becomes before after stage answer) where
+    abbrev views : List (ClientView V O R T)
+    views = map client_view above
+
+    abbrev tables_after : List Table
+    tables_after = slice_set mid (from + i) becomes
+
+    abbrev stages_after : List Stage
+    stages_after = slice_set stages_mid i stage
+
+    abbrev above_after : List Client
+    above_after = slice_set above_mid i after
+
+    first_of_side : slice_get above i ≡ Some before
+    first_of_side = sym (done.rest i (omega arith)) ∙ of_side
+
+    below_at :
+        (k : ℕ) (b a : Client) → k < i + 1 → slice_get above k ≡ Some b → ((k ≡ i) × (a ≡ after)) ⊎ ((k ≢ i) × (slice_get above_mid k ≡ Some a))
+        → Goes (client_view b) (client_view a)
+    below_at k b a lt eb (inl h) =
+        let same : b ≡ before = same_element above i before b first_of_side (subst (λ n. slice_get above n ≡ Some b) h.0 eb) in
+        subst (λ x. Goes (client_view x) (client_view a)) (sym same) (subst (λ x. Goes (client_view before) (client_view x)) (sym h.1) moves.goes)
+    below_at k b a lt eb (inr h) = let ne : k ≢ i = h.0 in done.below k b a (omega arith) eb h.1
+
+    counts_at : moved + cond answer 1 0 ≡ all_moves_up views (map client_view above_after)
+    counts_at =
+        ap (λ n. n + cond answer 1 0) done.counts
+        ∙ ap (λ n. all_moves_up views (map client_view above_mid) + n) (sym moves.moved)
+        ∙ sym (one_moves views (map client_view above_mid) i (client_view before) (client_view after) (mapped client_view above i before first_of_side)
+        (mapped client_view above_mid i before of_side))
+        ∙ ap (λ l. all_moves_up views l) (sym (map-set client_view above_mid i after))
+
+    module _ (place : ℕ) (is : IsAbove place stages views) where
+      mid_above : IsAbove place stages_mid (map client_view above_mid)
+      mid_above = done.is_above place is
+
+      was_placed : (client_view before).place ≡ place
+      was_placed = mid_above.places i (client_view before) (mapped client_view above_mid i before of_side)
+
+      places_at :
+          (k : ℕ) (a : Client) → ((k ≡ i) × (a ≡ after)) ⊎ ((k ≢ i) × (slice_get above_mid k ≡ Some a)) → (client_view a).place ≡ place
+      places_at k a (inl h) = ap (λ x. (client_view x).place) h.1 ∙ moves.place ∙ was_placed
+      places_at k a (inr h) = mid_above.places k (client_view a) (mapped client_view above_mid k a h.1)
+
+      stages_at :
+          (k : ℕ) (s : Stage) (a : Client) → ((k ≡ i) × (s ≡ stage)) ⊎ ((k ≢ i) × (slice_get stages_mid k ≡ Some s))
+          → ((k ≡ i) × (a ≡ after)) ⊎ ((k ≢ i) × (slice_get above_mid k ≡ Some a)) → IsAt s (client_view a)
+      stages_at k s a (inl h) (inl m) =
+          subst (λ x. IsAt x (client_view a)) (sym h.1) (subst (λ x. IsAt stage (client_view x)) (sym m.1) moves.at)
+      stages_at k s a (inl h) (inr m) = absurd (m.0 h.0)
+      stages_at k s a (inr h) (inl m) = absurd (h.0 m.0)
+      stages_at k s a (inr h) (inr m) = mid_above.stages k s (client_view a) h.1 (mapped client_view above_mid k a m.1)
+
+      above_at : IsAbove place stages_after (map client_view above_after)
+      above_at = record {
+        as_many =
+            length-set stages_mid i stage ∙ mid_above.as_many ∙ length-map above_mid client_view
+            ∙ sym (length-map above_after client_view ∙ length-set above_mid i after);
+        places = λ k up e.
+            let (a, ea, is_a) = mapped_from client_view above_after k up e in
+            ap (λ v. v.place) is_a ∙ places_at k a (set_cases above_mid i k after a ea);
+        stages = λ k s up es e.
+            let (a, ea, is_a) = mapped_from client_view above_after k up e in
+            subst (λ v. IsAt s v) (sym is_a) (stages_at k s a (set_cases stages_mid i k stage s es) (set_cases above_mid i k after a ea));
+      }
+
+      mid_keeps : KeepsAbove opening_at client_view HasClient HasTrustee old mid from place
+      mid_keeps = done.keeps place is
+
+      openings_at :
+          (t : ℕ) (x y : Table) → slice_get old t ≡ Some x → ((t ≡ from + i) × (y ≡ becomes)) ⊎ ((t ≢ from + i) × (slice_get mid t ≡ Some y))
+          → opening_at y ≡ opening_at x
+      openings_at t x y ex (inl h) =
+          ap (λ z. opening_at z) h.1 ∙ moves.opening ∙ mid_keeps.openings t x was ex (subst (λ n. slice_get mid n ≡ Some was) (sym h.0) of_table)
+      openings_at t x y ex (inr h) = mid_keeps.openings t x y ex h.1
+
+      clients_at :
+          (t : ℕ) (x y : Table) → slice_get old t ≡ Some x → ((t ≡ from + i) × (y ≡ becomes)) ⊎ ((t ≢ from + i) × (slice_get mid t ≡ Some y))
+          → (other : Client) → (client_view other).place ≢ place → HasClient x other → HasClient y other
+      clients_at t x y ex (inl h) other ne has =
+          subst (λ z. HasClient z other) (sym h.1)
+          (moves.clients other (λ e. ne (e ∙ was_placed))
+          (mid_keeps.clients t x was ex (subst (λ n. slice_get mid n ≡ Some was) (sym h.0) of_table) other ne has))
+      clients_at t x y ex (inr h) other ne has = mid_keeps.clients t x y ex h.1 other ne has
+
+      trustees_at :
+          (t : ℕ) (x y : Table) → slice_get old t ≡ Some x → ((t ≡ from + i) × (y ≡ becomes)) ⊎ ((t ≢ from + i) × (slice_get mid t ≡ Some y))
+          → (other : Owner) → HasTrustee x other → HasTrustee y other
+      trustees_at t x y ex (inl h) other has =
+          subst (λ z. HasTrustee z other) (sym h.1)
+          (moves.trustees other (mid_keeps.trustees t x was ex (subst (λ n. slice_get mid n ≡ Some was) (sym h.0) of_table) other has))
+      trustees_at t x y ex (inr h) other has = mid_keeps.trustees t x y ex h.1 other has
+
+      keeps_at : KeepsAbove opening_at client_view HasClient HasTrustee old tables_after from place
+      keeps_at = record {
+        as_many = length-set mid (from + i) becomes ∙ mid_keeps.as_many;
+        lower = λ t lt. set_other mid (from + i) t becomes (λ e. absurd (omega arith)) ∙ mid_keeps.lower t lt;
+        openings = λ t x y ex ey. openings_at t x y ex (set_cases mid (from + i) t becomes y ey);
+        clients = λ t x y ex ey. clients_at t x y ex (set_cases mid (from + i) t becomes y ey);
+        trustees = λ t x y ex ey. trustees_at t x y ex (set_cases mid (from + i) t becomes y ey);
+      }
+
+    among_at :
+        (k : ℕ) (y : Table) (a : Client) → ((from + k ≡ from + i) × (y ≡ becomes)) ⊎ ((from + k ≢ from + i) × (slice_get mid (from + k) ≡ Some y))
+        → ((k ≡ i) × (a ≡ after)) ⊎ ((k ≢ i) × (slice_get above_mid k ≡ Some a)) → HasClient y a
+    among_at k y a (inl h) (inl m) =
+        subst (λ z. HasClient z a) (sym h.1) (subst (λ x. HasClient becomes x) (sym m.1) moves.mine)
+    among_at k y a (inl h) (inr m) = let e : from + k ≡ from + i = h.0 in absurd (m.0 (omega arith))
+    among_at k y a (inr h) (inl m) = absurd (h.0 (ap (λ n. from + n) m.0))
+    among_at k y a (inr h) (inr m) = done.among.mine k y a h.1 m.1
+
+    one_more_moved : HasMoved from (i + 1) old tables_after stages stages_after above above_after (moved + cond answer 1 0)
+    one_more_moved = record {
+      as_many = length-set above_mid i after ∙ done.as_many;
+      below = λ k b a lt eb ea. below_at k b a lt eb (set_cases above_mid i k after a ea);
+      rest = λ k le. let ne : k ≢ i = λ e. absurd (omega arith) in set_other above_mid i k after ne ∙ done.rest k (omega arith);
+      counts = counts_at;
+      most = one_more answer moved i done.most;
+      is_above = above_at;
+      among = record {
+        as_many = ap (λ n. from + n) (length-set above_mid i after) ∙ done.among.as_many ∙ sym (length-set mid (from + i) becomes);
+        mine = λ k y a ey ea. among_at k y a (set_cases mid (from + i) (from + k) becomes y ey) (set_cases above_mid i k after a ea);
+      };
+      keeps = keeps_at;
+    }
+
+  -- a move at the next side
+  pub next_moved :
+      (from i : ℕ) (old mid new : List Table) (stages stages_mid stages_new : List Stage) (above above_mid above_new : List Client) (moved more : ℕ)
+      (answer : Bool)
+      → HasMoved from i old mid stages stages_mid above above_mid moved
+      → MovesAt opening_at client_view HasClient HasTrustee Goes (from + i) i mid new stages_mid stages_new above_mid above_new answer
+      → more ≡ moved + cond answer 1 0 → HasMoved from (i + 1) old new stages stages_new above above_new more
+  next_moved from i old mid new stages stages_mid stages_new above above_mid above_new moved more answer done m is =
+      let at = one_more_moved from i old mid stages stages_mid above above_mid moved done m.was m.becomes m.before m.after m.stage answer m.of_table m.of_side m.moves in
+      subst (λ n. HasMoved from (i + 1) old new stages stages_new above above_new n) (sym is)
+      (subst (λ l. HasMoved from (i + 1) old l stages stages_new above above_new (moved + cond answer 1 0)) (sym m.tables)
+      (subst (λ l. HasMoved from (i + 1) old (slice_set mid (from + i) m.becomes) stages l above above_new (moved + cond answer 1 0)) (sym m.stages_are)
+      (subst (λ l. HasMoved from (i + 1) old (slice_set mid (from + i) m.becomes) stages (slice_set stages_mid i m.stage) above l (moved + cond answer 1 0)) (sym m.sides) at)))
+
+  each_goes :
+      (olds news : List Client) → length news ≡ length olds
+      → ((k : ℕ) (before after : Client) → slice_get olds k ≡ Some before → slice_get news k ≡ Some after → Goes (client_view before) (client_view after))
+      → Each Goes (map client_view olds) (map client_view news)
+  each_goes [] [] e goes = tt
+  each_goes [] (n ∷ news) e goes = absurd (omega (arith, e))
+  each_goes (o ∷ olds) [] e goes = absurd (omega (arith, e))
+  each_goes (o ∷ olds) (n ∷ news) e goes = (goes 0 o n refl refl, each_goes olds news (omega (arith, e)) (λ k. goes (suc k)))
+
+  -- each moved once all have
+  pub all_moved :
+      (from i : ℕ) (old new : List Table) (stages stages_new : List Stage) (above above_new : List Client) (moved : ℕ)
+      → HasMoved from i old new stages stages_new above above_new moved → i ≡ length above → Each Goes (map client_view above) (map client_view above_new)
+  all_moved from i old new stages stages_new above above_new moved done all =
+      each_goes above above_new done.as_many
+      (λ k before after eb ea. done.below k before after (subst (λ n. k < n) (sym all) (slice_get_within above k before eb)) eb ea)

@@ -1,0 +1,131 @@
+-- What a turn leaves of a trustee's sides above, from what its two parts leave.
+use Rattle.std.proofs.Common.{◌≡◌, ℕ, ◌+◌, ◌<◌, ◌≤◌, ◌↔◌, zero, suc, List, [], ◌∷◌, length, slice_index_or, inl, inr, refl, sym, ◌∙◌, ap, subst, arith, length-append}
+use Rattle.std.specs.Prelude.{All, slice_get}
+use Rattle.std.specs.declared.option.Option.TheVariants.{None, Some}
+use Rattle.std.proofs.lemmas.Option.{slice_get-get_or, get_or_from_slice_get}
+use Rattle.tm_batch.specs.declared.message.Request.{Request}
+use Rattle.tm_batch.specs.declared.message.Request.TheVariants.{Bye}
+use Rattle.tm_pair.specs.Views.{ClientView}
+use Rattle.tm_pair.specs.Calls.{Collects}
+use Rattle.tm_pair.specs.declared.table.Collected.{Collected}
+use Rattle.tm_pair.specs.declared.table.Collected.TheVariants.{Answers, Pending, Idle}
+use Rattle.tm_trustee.specs.Above.{IsAt, LooksUp, SaysBye, GoesUp, Each, moves_up, all_moves_up, IsAbove}
+use Rattle.tm_trustee.specs.Turn.{Tells}
+use Rattle.tm_trustee.specs.declared.stage.Stage.{Stage}
+use Rattle.tm_trustee.specs.declared.stage.Stage.TheVariants.{Before, Out, Over}
+use Rattle.tm_trustee.specs.declared.served.Served.{Served}
+use Rattle.tm_trustee.specs.declared.served.Served.TheVariants.{Moved, Quiet, Ended}
+
+element_at : {X : Type 0} (xs : List X) (i : ℕ) → i < length xs → (x : X) × (slice_get xs i ≡ Some x)
+element_at [] i lt = absurd (omega (arith, lt))
+element_at (x ∷ xs) zero lt = (x, refl)
+element_at (x ∷ xs) (suc i) lt = element_at xs i (omega (arith, lt))
+
+module _ {V O R T : Type 0} where
+  -- what a side sent and got only grows
+  pub record Grows (old new : ClientView V O R T) : Type 0 where
+    pub sent : length old.sent ≤ length new.sent
+    pub got : length old.got ≤ length new.got
+
+  collected_grows : (found : Collected V O R T) (old new : ClientView V O R T) → Collects old new found → Grows old new
+  collected_grows Idle old new idle = subst (λ view. Grows old view) (sym idle.kept) (record { sent = omega arith; got = omega arith })
+  collected_grows Pending old new pending =
+      let sent : length new.sent ≡ length old.sent = ap (λ (l : List (Request V O R T)). length l) pending.sent in
+      let got : length new.got ≡ length old.got = ap (λ l. length l) pending.got in
+      record { sent = omega (arith, sent); got = omega (arith, got) }
+  collected_grows (Answers a) old new gets =
+      let sent : length new.sent ≡ length old.sent = ap (λ (l : List (Request V O R T)). length l) gets.sent in
+      let got : length new.got ≡ length old.got + length (a ∷ []) = ap (λ l. length l) gets.got ∙ length-append old.got (a ∷ []) in
+      record { sent = omega (arith, sent); got = omega (arith, got) }
+
+  bye_grows : (all : Type 0) (old new : ClientView V O R T) → SaysBye all old new → Grows old new
+  bye_grows all old new (inl said) =
+      let bye : List (Request V O R T) = Bye ∷ [] in
+      let sent : length new.sent ≡ length old.sent + length bye =
+      ap (λ (l : List (Request V O R T)). length l) said.2.sent ∙ length-append old.sent bye in
+      let got : length new.got ≡ length old.got = ap (λ l. length l) said.2.got in
+      record { sent = omega (arith, sent); got = omega (arith, got) }
+  bye_grows all old new (inr kept) = subst (λ view. Grows old view) (sym kept.0) (record { sent = omega arith; got = omega arith })
+
+  moves_join : (old mid new : ClientView V O R T) → Grows old mid → Grows mid new → moves_up old mid + moves_up mid new ≡ moves_up old new
+  moves_join old mid new first then = omega (arith, first.sent, first.got, then.sent, then.got)
+
+  -- both parts together, at each side
+  pub goes_up :
+      (all : Type 0) (olds mids news : List (ClientView V O R T)) → Each LooksUp olds mids → Each (SaysBye all) mids news
+      → Each (GoesUp all) olds news
+  goes_up all [] [] [] looks says = tt
+  goes_up all [] [] (new ∷ news) looks says = absurd says
+  goes_up all [] (mid ∷ mids) news looks says = absurd looks
+  goes_up all (old ∷ olds) [] news looks says = absurd looks
+  goes_up all (old ∷ olds) (mid ∷ mids) [] looks says = absurd says
+  goes_up all (old ∷ olds) (mid ∷ mids) (new ∷ news) looks says =
+      ((mid, looks.0, says.0), goes_up all olds mids news looks.1 says.1)
+
+  -- and what they moved
+  pub all_moves_join :
+      (all : Type 0) (olds mids news : List (ClientView V O R T)) → Each LooksUp olds mids → Each (SaysBye all) mids news
+      → all_moves_up olds mids + all_moves_up mids news ≡ all_moves_up olds news
+  all_moves_join all [] [] [] looks says = refl
+  all_moves_join all [] [] (new ∷ news) looks says = absurd says
+  all_moves_join all [] (mid ∷ mids) news looks says = absurd looks
+  all_moves_join all (old ∷ olds) [] news looks says = absurd looks
+  all_moves_join all (old ∷ olds) (mid ∷ mids) [] looks says = absurd says
+  all_moves_join all (old ∷ olds) (mid ∷ mids) (new ∷ news) looks says =
+      let (found, collects) = looks.0 in
+      let here : moves_up old mid + moves_up mid new ≡ moves_up old new =
+      moves_join old mid new (collected_grows found old mid collects) (bye_grows all mid new says.0) in
+      let rest : all_moves_up olds mids + all_moves_up mids news ≡ all_moves_up olds news = all_moves_join all olds mids news looks.1 says.1 in
+      omega (arith, here, rest)
+
+  -- where one condition stands for another
+  says_as : (a b : Type 0) → (a → b) → (b → a) → (old new : ClientView V O R T) → SaysBye a old new → SaysBye b old new
+  says_as a b to from old new (inl said) = inl (to said.0, said.1, said.2)
+  says_as a b to from old new (inr (same, inl was)) = inr (same, inl was)
+  says_as a b to from old new (inr (same, inr fails)) = inr (same, inr (λ holds. fails (from holds)))
+
+  pub all_say_as :
+      (a b : Type 0) → (a → b) → (b → a) → (olds news : List (ClientView V O R T)) → Each (SaysBye a) olds news → Each (SaysBye b) olds news
+  all_say_as a b to from [] [] says = tt
+  all_say_as a b to from [] (new ∷ news) says = absurd says
+  all_say_as a b to from (old ∷ olds) [] says = absurd says
+  all_say_as a b to from (old ∷ olds) (new ∷ news) says = (says_as a b to from old new says.0, all_say_as a b to from olds news says.1)
+
+  -- nothing is said where the condition fails
+  pub none_says : (all : Type 0) → (¬ all) → (views : List (ClientView V O R T)) → Each (SaysBye all) views views
+  none_says all fails [] = tt
+  none_says all fails (view ∷ views) = (inr (refl, inr fails), none_says all fails views)
+
+  pub none_moves : (views : List (ClientView V O R T)) → all_moves_up views views ≡ 0
+  none_moves [] = refl
+  none_moves (view ∷ views) =
+      let rest : all_moves_up views views ≡ 0 = none_moves views in omega (arith, rest)
+
+  -- a side that is over is noted as such
+  only_over : (stage : Stage) (view : ClientView V O R T) → IsAt stage view → IsAt Over view → stage ≡ Over
+  only_over Before view at over = let empty : List (Request V O R T) = [] in let e : empty ≡ Bye ∷ [] = sym at.0 ∙ over.0 in absurd cc
+  only_over Out view at over = let e : Some 0 ≡ None = sym at.2 ∙ over.1 in absurd cc
+  only_over Over view at over = refl
+
+  pub over_exactly :
+      (place : ℕ) (at : List Stage) (ups : List (ClientView V O R T)) → IsAbove place at ups
+      → All (λ stage. stage ≡ Over) at ↔ All (IsAt Over) ups
+  over_exactly place at ups above = (
+    λ over k d lt.
+        let there : slice_get ups k ≡ Some (slice_index_or ups k d) = slice_get-get_or ups k d lt in
+        let within : k < length at = subst (λ n. k < n) (sym above.as_many) lt in
+        let noted : slice_get at k ≡ Some (slice_index_or at k Over) = slice_get-get_or at k Over within in
+        subst (λ stage. IsAt stage (slice_index_or ups k d)) (over k Over within) (above.stages k _ _ noted there),
+    λ over k d lt.
+        let within : k < length ups = subst (λ n. k < n) above.as_many lt in
+        let noted : slice_get at k ≡ Some (slice_index_or at k d) = slice_get-get_or at k d lt in
+        let (up, there) = element_at ups k within in
+        let last : IsAt Over up = subst (λ view. IsAt Over view) (get_or_from_slice_get ups k up up there) (over k up within) in
+        only_over (slice_index_or at k d) up (above.stages k _ up noted there) last,
+  )
+
+-- what a turn says, where one condition stands for another
+pub tells_as : (served : Served) (a b : Type 0) (moved : ℕ) → (a → b) → (b → a) → Tells served a moved → Tells served b moved
+tells_as Ended a b moved to from tells = to tells
+tells_as Quiet a b moved to from tells = (λ holds. tells.0 (from holds), tells.1)
+tells_as (Moved n) a b moved to from tells = (λ holds. tells.0 (from holds), tells.1, tells.2)

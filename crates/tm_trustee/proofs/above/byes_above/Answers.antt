@@ -1,0 +1,33 @@
+use Rattle.std.proofs.Common.{rules, ◌≡◌, ◌+◌, ap, length, arith}
+use Rattle.tm_trustee.specs.Above.{SaysBye}
+use Rattle.tm_trustee.proofs.AboveSteps as steps
+use Rattle.tm_trustee.proofs.above.byes_above.Goals as goal
+
+pub loop-i-init : goal.loop-i-init
+loop-i-init g c = record {
+  seats = search rules;
+  moves =
+      steps.none_moved g.P.PairTable.opening g.P.PairTable.client_view g.P.PairTable.HasClient g.P.PairTable.HasTrustee (SaysBye (Unit {0})) c.args.from
+      c.args.tables.now c.args.stages.now.items c.args.above.now.items c.requires.among;
+}
+
+pub bye_at-requires-clause-above : goal.bye_at-requires-clause-above
+bye_at-requires-clause-above g c =
+    let (place, is) = c.requires.above in (place, c.loop-i.invariant.moves.is_above place is)
+
+pub loop-i-preserved : goal.loop-i-preserved
+loop-i-preserved g c = record {
+  seats = c.loop-i.invariant.seats;
+  moves =
+      steps.next_moved g.P.PairTable.opening g.P.PairTable.client_view g.P.PairTable.HasClient g.P.PairTable.HasTrustee (SaysBye (Unit {0})) c.args.from
+      c.loop-i.i c.args.tables.now c.loop-i.tables c.bye_at.new.tables c.args.stages.now.items c.loop-i.stages.items c.bye_at.new.stages.items
+      c.args.above.now.items c.loop-i.above.items c.bye_at.new.above.items c.loop-i.moved (c.loop-i.moved + c.from-moved.result) c.bye_at.result
+      c.loop-i.invariant.moves c.bye_at.ensures (ap (λ n. c.loop-i.moved + n) (steps.as_count c.bye_at.result c.from-moved.result c.from-moved.ensures));
+}
+
+pub returns-clause-says : goal.returns-clause-says
+returns-clause-says g c =
+    let all : c.loop-i.i ≡ length c.args.above.now.items = omega (arith, c.loop-i.invariant.seats) in
+    steps.all_moved g.P.PairTable.opening g.P.PairTable.client_view g.P.PairTable.HasClient g.P.PairTable.HasTrustee (SaysBye (Unit {0})) c.args.from
+    c.loop-i.i c.args.tables.now c.loop-i.tables c.args.stages.now.items c.loop-i.stages.items c.args.above.now.items c.loop-i.above.items
+    c.loop-i.moved c.loop-i.invariant.moves all

@@ -1,0 +1,7 @@
+pub mod Places
+pub mod Above
+pub mod Standing
+pub mod Tables
+pub mod Turn
+pub mod Begun
+pub mod AboveAt

@@ -1,0 +1,13 @@
+//! What a turn did.
+
+/// What a turn of a trustee did.
+#[derive(Debug, Clone, Copy, PartialEq, Eq)]
+pub enum Served {
+    /// So many batches were answered, published and collected, at least one.
+    Moved(u64),
+    /// It has not ended, every look found nothing, and nothing was published.
+    Quiet,
+    /// Every place has said `Bye`, and every greater trustee's answer to this one's was collected, whatever
+    /// this turn moved.
+    Ended,
+}
