@@ -16,7 +16,6 @@ ghost use Rattle.tm_pair.specs.Standing.{client_side_good, trustee_side_good};
 use crate::moves::{Move, again, answered, collected, is_bounded, published, seen};
 use crate::place::Place;
 use crate::placed::Placed;
-use crate::small_batch::SmallBatch;
 use crate::table::{Collected, Held, PairTable, Since};
 use tm_base::Told;
 use tm_batch::{AnswerBatch, Batch, Config, First};
@@ -25,7 +24,7 @@ use tm_seq::Entrusted;
 /// A trustee's table in one thread. For contracts alone it keeps the list of the build, and what
 /// was done at it, which tells the slots and the log that it stands for.
 #[derive(Drop)]
-pub struct PlainTable<S: SmallBatch> {
+pub struct PlainTable<S: Placed> {
     pub(crate) places: Vec<Place<S>>,
     pub(crate) number: u32,
     pub(crate) config: Config,
