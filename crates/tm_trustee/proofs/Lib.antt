@@ -7,3 +7,6 @@ pub mod TurningAbove
 pub mod TurningLooks
 pub mod TurningTables
 pub mod TurningTold
+mod DrivenKept
+mod DrivenAsked
+mod DrivenFirst

@@ -5,3 +5,4 @@ pub mod Tables
 pub mod Turn
 pub mod Begun
 pub mod AboveAt
+pub mod Driving

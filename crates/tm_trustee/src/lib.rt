@@ -15,3 +15,6 @@ mod turn;
 pub use opening::TrusteeRefused;
 pub use served::Served;
 pub use trustee::Trustee;
+
+#[cfg(test)]
+mod tests;

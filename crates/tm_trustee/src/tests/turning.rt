@@ -1,0 +1,21 @@
+//! The turns of these tests.
+ghost use Rattle.tm_trustee.specs.Driving.{IsDriven, IsSeated};
+
+use crate::served::Served;
+use crate::trustee::Trustee;
+use tm_base::Gate;
+use tm_pair::PairTable;
+use tm_seq::Counter;
+
+/// A turn of the greater trustee.
+pub(super) fn turn<P: PairTable<Counter>, G: Gate>(
+    trustee: &mut Trustee<Counter, P>,
+    tables: &mut [P],
+    gate: &G,
+) -> Served
+    requires { IsDriven P.opening P.client_view P.HasClient P.HasTrustee P.trustee_view tables.old 1 trustee.old }
+    ensures ready { IsDriven P.opening P.client_view P.HasClient P.HasTrustee P.trustee_view tables.new 1 trustee.new }
+    ensures sides { (other : P.ClientSide) → IsSeated P.opening P.client_view P.HasClient P.HasTrustee P.trustee_view tables.old 1 other → IsSeated P.opening P.client_view P.HasClient P.HasTrustee P.trustee_view tables.new 1 other }
+{
+    trustee.serve_turn(tables, gate)
+}
