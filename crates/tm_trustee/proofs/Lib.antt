@@ -7,6 +7,3 @@ pub mod TurningAbove
 pub mod TurningLooks
 pub mod TurningTables
 pub mod TurningTold
-mod DrivenKept
-mod DrivenAsked
-mod DrivenFirst

@@ -5,4 +5,3 @@ pub mod Tables
 pub mod Turn
 pub mod Begun
 pub mod AboveAt
-pub mod Driving

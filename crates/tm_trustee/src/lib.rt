@@ -15,6 +15,3 @@ mod turn;
 pub use opening::TrusteeRefused;
 pub use served::Served;
 pub use trustee::Trustee;
-
-#[cfg(test)]
-mod tests;

@@ -1,8 +1,0 @@
-use Rattle.std.proofs.Common.{sym, subst}
-use Rattle.tm_model.specs.Opening.{IsBuildable}
-use Rattle.tm_trustee.specs.Driving.{small}
-use Rattle.tm_trustee.proofs.DrivenFirst.{small_buildable}
-use Rattle.tm_trustee.proofs.tests.start.high.Goals as goal
-
-pub new-requires-clause-buildable : goal.new-requires-clause-buildable
-new-requires-clause-buildable c = subst (λ l. IsBuildable small l) (sym c.in_ok-one_counter.ensures) small_buildable
