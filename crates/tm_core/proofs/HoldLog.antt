@@ -1,11 +1,11 @@
 -- What a legal log does to the holds of a place and to the gifts that wait for it, from any state on.
-use Rattle.std.proofs.Common.{◌≡◌, ◌≢◌, ℕ, ◌+◌, ◌<◌, ◌⊎◌, true, false, cond, List, [], ◌∷◌, ◌++◌, length, take, inl, inr, refl, sym, ◌∙◌, ap, subst, arith, eq-eqb, ne_eqb, zero-add, get_or-set_same}
+use Rattle.std.proofs.Common.{◌≡◌, ◌≢◌, ℕ, ◌+◌, ◌<◌, true, false, cond, List, [], ◌∷◌, ◌++◌, length, take, inl, inr, refl, sym, ◌∙◌, ap, subst, arith, eq-eqb, ne_eqb, zero-add, get_or-set_same}
 use Rattle.std.specs.Prelude.{◌==◌}
 use Rattle.std.proofs.Math.Seq.{take-nil}
 use Rattle.std.proofs.lemmas.Bool.{cases_eq}
 use Rattle.tm_seq.specs.Kind.{Kind}
 use Rattle.tm_batch.specs.declared.message.Request.{Request}
-use Rattle.tm_batch.specs.declared.message.Request.TheVariants.{Entrust, Apply, Launch, Grant, Release, Reclaim, Bye}
+use Rattle.tm_batch.specs.declared.message.Request.TheVariants.{Bye}
 use Rattle.tm_batch.specs.declared.message.Answer.{Answer}
 use Rattle.tm_batch.specs.declared.message.AnswerBatch.{AnswerBatch}
 use Rattle.tm_batch.specs.declared.message.Answer.TheVariants.{ByeDone}
@@ -17,6 +17,7 @@ use Rattle.tm_model.specs.Legal.{Serves, IsLegal}
 use Rattle.tm_model.specs.Ran.{ran, answered}
 use Rattle.tm_model.specs.Batches.{leaving, batches_from}
 use Rattle.tm_model.specs.Holds.{has_bye, gave, brought, brought_by, gifts_in, gifts_of}
+use Rattle.tm_model.proofs.Byes.{bye_or_not}
 use Rattle.tm_core.proofs.Gives.{Gives, by_gives, sent_gives, resume_gives}
 use Rattle.tm_core.proofs.Ordered.{IsOrdered, after_ordered}
 use Rattle.tm_core.proofs.Choices.{cond_same}
@@ -73,15 +74,6 @@ module _ {V O R T : Type 0} where
         omega (arith, one, rest, away, here);
     shut = λ is. flows.shut (sym bye ∙ is);
   }
-
-  bye_or_not : (q : Request V O R T) → (q ≡ Bye) ⊎ ((q ≢ Bye) × ((qs : List (Request V O R T)) → has_bye (q ∷ qs) ≡ has_bye qs))
-  bye_or_not Bye = inl refl
-  bye_or_not (Entrust v) = inr (λ e. cc, λ qs. refl)
-  bye_or_not (Apply i op) = inr (λ e. cc, λ qs. refl)
-  bye_or_not (Launch i task) = inr (λ e. cc, λ qs. refl)
-  bye_or_not (Grant i d) = inr (λ e. cc, λ qs. refl)
-  bye_or_not (Release i) = inr (λ e. cc, λ qs. refl)
-  bye_or_not (Reclaim i) = inr (λ e. cc, λ qs. refl)
 
   module _ (kind : Kind V O R T) (n c : ℕ) (lt : c < n) where
     -- a Bye shuts its place

@@ -28,6 +28,7 @@ use Rattle.tm_model.specs.Holds.{Names, has_bye, answers_in, launches_in, gave, 
 use Rattle.tm_model.specs.Orderly.{IsOrderly}
 use Rattle.tm_model.specs.Good.{FullBox, FullSlot, FullCore, unserved, got_with, IsOutInOrder, IsGood}
 use Rattle.tm_model.specs.Laws.{IsOpening, IsTold, BatchesAreTold, HeldAreLive}
+use Rattle.tm_model.proofs.Byes.{not_in_none, bye_names}
 use Rattle.tm_core.proofs.Every.{found}
 use Rattle.tm_core.proofs.Tallies.{came_more, came_same, bye_in, gave-append, launches_in-append, bye_more}
 use Rattle.tm_core.proofs.Rising.{holds_sum, holds_are_sum, sum_change, sum_kept}
@@ -147,18 +148,6 @@ module _ {V O R T : Type 0} where
       resumes_hold kind c id es (after kind s (Resume i ticket event next)) h ∙ resumed_holds kind c id i ticket event next s
   resumes_hold kind c id (By d k q a ∷ es) s h = absurd h
   resumes_hold kind c id (Sent d room ∷ es) s h = absurd h
-
-  not_in_none : (before after : List (Request V O R T)) (q : Request V O R T) → [] ≢ before ++ q ∷ after
-  not_in_none [] after q e = cc
-  not_in_none (x ∷ before) after q e = cc
-
-  bye_names : (before after : List (Request V O R T)) (q : Request V O R T) (id : ℕ) → Bye ∷ [] ≡ before ++ q ∷ after → ¬ Names q id
-  bye_names [] after q id e names =
-      let is : q ≡ Bye = cc in
-      subst (λ (x : Request V O R T). Names x id) is names
-  bye_names (x ∷ before) after q id e names =
-      let rest : [] ≡ before ++ q ∷ after = cc in
-      not_in_none before after q rest
 
   reached_is :
       (kind : Kind V O R T) (opening : State V O R T) (box : FullBox V O R T) (slot : FullSlot V O R T) (c : ℕ) (log : List (Entry V O R T))

@@ -1,5 +1,5 @@
 -- By a legal log a place is closed exactly where the log ran a Bye of it.
-use Rattle.std.proofs.Common.{◌≡◌, ◌≢◌, ℕ, ◌<◌, ◌⊎◌, true, false, cond, List, [], ◌∷◌, length, slice_index_or, inl, inr, refl, sym, ◌∙◌, ap, subst, arith, eq-eqb, ne_eqb, get_or-set_same}
+use Rattle.std.proofs.Common.{◌≡◌, ℕ, ◌<◌, true, false, cond, List, [], ◌∷◌, length, slice_index_or, inl, inr, refl, sym, ◌∙◌, ap, subst, arith, eq-eqb, ne_eqb, get_or-set_same}
 use Rattle.std.specs.Prelude.{All, IsTrue}
 use Rattle.std.proofs.Math.ListN.{get_or-map}
 use Rattle.std.proofs.lemmas.Bool.{cases_eq}
@@ -7,7 +7,7 @@ use Rattle.std.proofs.lemmas.List.{length-map}
 use Rattle.std.proofs.lemmas.List.Elements.{All-from_get_or}
 use Rattle.tm_seq.specs.Kind.{Kind}
 use Rattle.tm_batch.specs.declared.message.Request.{Request}
-use Rattle.tm_batch.specs.declared.message.Request.TheVariants.{Entrust, Apply, Launch, Grant, Release, Reclaim, Bye}
+use Rattle.tm_batch.specs.declared.message.Request.TheVariants.{Bye}
 use Rattle.tm_batch.specs.declared.message.Answer.{Answer}
 use Rattle.tm_batch.specs.declared.message.Answer.TheVariants.{ByeDone}
 use Rattle.tm_model.specs.declared.entry.Entry.{Entry}
@@ -17,6 +17,7 @@ use Rattle.tm_model.specs.Serve.{served, counted, after, state_after}
 use Rattle.tm_model.specs.Legal.{Serves, IsLegal}
 use Rattle.tm_model.specs.Ran.{ran}
 use Rattle.tm_model.specs.Holds.{has_bye}
+use Rattle.tm_model.proofs.Byes.{bye_or_not}
 use Rattle.tm_core.proofs.Gives.{by_gives, sent_gives, resume_gives}
 use Rattle.tm_core.proofs.Numbering.{opening_place}
 use Rattle.tm_core.proofs.Ordered.{IsOrdered, opening_ordered, after_ordered, log_ordered}
@@ -30,15 +31,6 @@ module _ {V O R T : Type 0} where
   record Closes (c : ℕ) (s t : State V O R T) (qs : List (Request V O R T)) : Type 0 where
     pub opens : (place_of s c).is_closed ≡ false → (place_of t c).is_closed ≡ has_bye qs
     pub stays : (place_of s c).is_closed ≡ true → (place_of t c).is_closed ≡ true
-
-  bye_or_not : (q : Request V O R T) → (q ≡ Bye) ⊎ ((q ≢ Bye) × ((qs : List (Request V O R T)) → has_bye (q ∷ qs) ≡ has_bye qs))
-  bye_or_not Bye = inl refl
-  bye_or_not (Entrust v) = inr (λ e. cc, λ qs. refl)
-  bye_or_not (Apply i op) = inr (λ e. cc, λ qs. refl)
-  bye_or_not (Launch i task) = inr (λ e. cc, λ qs. refl)
-  bye_or_not (Grant i d) = inr (λ e. cc, λ qs. refl)
-  bye_or_not (Release i) = inr (λ e. cc, λ qs. refl)
-  bye_or_not (Reclaim i) = inr (λ e. cc, λ qs. refl)
 
   -- an entry that leaves a place open or closed, before a log
   closes_more :

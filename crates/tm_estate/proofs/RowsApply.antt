@@ -1,11 +1,12 @@
 -- An operation is applied.
-use Rattle.std.proofs.Common.{◌≡◌, ℕ, Bool, true, false, inl, inr, refl, sym, ◌∙◌, ap, subst}
+use Rattle.std.proofs.Common.{◌≡◌, ℕ, refl, sym, ◌∙◌, ap, subst}
 use Rattle.tm_seq.specs.Kind.{Kind, KindLaws, IsRun}
 use Rattle.tm_batch.specs.declared.message.Name.{Name}
 use Rattle.tm_batch.specs.declared.message.Request.TheVariants.{Apply}
 use Rattle.tm_batch.specs.declared.message.Answer.TheVariants.{Replied}
 use Rattle.tm_model.specs.State.{Object, State, place_count, change, with_live}
 use Rattle.tm_model.specs.Serve.{value_run}
+use Rattle.tm_model.proofs.Running.{run_value}
 use Rattle.tm_objects.specs.Live.{HasLive}
 use Rattle.tm_objects.specs.Stock.{Stock, changed}
 use Rattle.tm_objects.specs.Standing.{stock_of}
@@ -19,22 +20,6 @@ use Rattle.tm_estate.proofs.RowsKeep.{Row, keeps_live}
 use Rattle.tm_estate.proofs.RowsLive.{HeldAt, held_at, of_object, from_live, is_held}
 
 module _ {V O R T : Type 0} (kind : Kind V O R T) (laws : KindLaws kind) where
-  stepped :
-      (v w : V) (op : O) (r : R) (t : Bool) → kind.lacks r ≡ t → w ≡ (kind.step v op).0 → r ≡ (kind.step v op).1
-      → w ≡ value_run kind v op r
-  stepped v w op r true lacks value reply =
-      let no_memory : r ≡ kind.no_memory = (laws.lacks_is r).0 lacks in
-      rw lacks (value ∙ laws.step_kept v op (sym reply ∙ no_memory))
-  stepped v w op r false lacks value reply = rw lacks value
-
-  -- the value after a lawful operation is that of the state's step
-  run_value : (v w : V) (op : O) (r : R) → IsRun kind v op w r → w ≡ value_run kind v op r
-  run_value v w op r run =
-      elim run [
-        | inl e ↦ stepped v w op r (kind.lacks r) refl (ap (λ (p : V × R). p.0) e) (ap (λ (p : V × R). p.1) e)
-        | inr e ↦ let lacks : kind.lacks r ≡ true = (laws.lacks_is r).1 e.1 in rw lacks e.0
-      ]
-
   module _ (opening s : State V O R T) (c : ℕ) (h : Holding V) (n : Name) (op : O) (asked : IsAsked opening s c (Apply n op) h) where
     at : HeldAt s h c n.id
     at = held_at n.id refl asked
@@ -48,7 +33,7 @@ module _ {V O R T : Type 0} (kind : Kind V O R T) (laws : KindLaws kind) where
         let o = at.object in
         let value : v ≡ o.value = from_live at (λ x. v ≡ x.value) lent in
         let lawful : IsRun kind o.value op w r = subst (λ x. IsRun kind x op w r) value run in
-        let new : w ≡ value_run kind o.value op r = run_value o.value w op r lawful in
+        let new : w ≡ value_run kind o.value op r = run_value kind laws o.value w op r lawful in
         let f : Object V T → Object V T = λ x. record x { value = value_run kind x.value op r } in
         let only = alone (place_count opening.setup) 1 s.next_id n.id s.live o (sound_ordered opening s asked.sound).rises at.found in
         let same : change n.id (λ x. record x { value = w }) s.live ≡ change n.id f s.live =

@@ -1,2 +1,4 @@
+pub mod Byes
 pub mod Cases
 pub mod Overlaps
+pub mod Running

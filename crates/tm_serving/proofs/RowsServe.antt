@@ -1,5 +1,5 @@
 -- Each row: what a body reads and writes serves the request.
-use Rattle.std.proofs.Common.{◌≡◌, ℕ, ◌+◌, ◌-◌, ◌<◌, ◌≤◌, Bool, true, false, List, [], ◌∷◌, ◌++◌, length, map, slice_index_or, slice_set, IsSomeAnd, inl, inr, refl, sym, ◌∙◌, ap, subst, arith}
+use Rattle.std.proofs.Common.{◌≡◌, ℕ, ◌+◌, ◌-◌, ◌<◌, ◌≤◌, true, false, List, [], ◌∷◌, ◌++◌, length, map, slice_index_or, slice_set, IsSomeAnd, inl, inr, refl, sym, ◌∙◌, ap, subst, arith}
 use Rattle.std.specs.List.{remove}
 use Rattle.std.proofs.Math.ListN.{replicate}
 use Rattle.std.specs.declared.option.Option.{Option}
@@ -13,6 +13,7 @@ use Rattle.tm_batch.specs.declared.message.Answer.TheVariants.{Entrusted, Replie
 use Rattle.tm_model.specs.State.{Start, Work, Object, Place, State, holds_of, with_holds, total, change, kept, object_of, no_place, place_of, with_place, with_live}
 use Rattle.tm_model.specs.Serve.{value_run, closed}
 use Rattle.tm_model.specs.Legal.{IsGiftRefused}
+use Rattle.tm_model.proofs.Running.{run_value}
 use Rattle.tm_serving.specs.Live.{with_work, Holds}
 use Rattle.tm_serving.specs.Served.{IsServed}
 
@@ -22,23 +23,6 @@ some_and P x e h = subst (λ t. IsSomeAnd t P) (sym e) h
 zeros : {X : Type 0} (xs : List X) → replicate {A = ℕ} (length xs) 0 ≡ map (λ _. 0) xs
 zeros [] = refl
 zeros (x ∷ xs) = ap (λ (ns : List ℕ). 0 ∷ ns) (zeros xs)
-
-module _ {V O R T : Type 0} (kind : Kind V O R T) (laws : KindLaws kind) where
-  stepped :
-      (v w : V) (op : O) (r : R) (t : Bool) → kind.lacks r ≡ t → w ≡ (kind.step v op).0 → r ≡ (kind.step v op).1
-      → w ≡ value_run kind v op r
-  stepped v w op r true lacks value reply =
-      let no_memory : r ≡ kind.no_memory = (laws.lacks_is r).0 lacks in
-      rw lacks (value ∙ laws.step_kept v op (sym reply ∙ no_memory))
-  stepped v w op r false lacks value reply = rw lacks value
-
-  -- the value after a lawful operation is that of the state's step
-  run_value : (v w : V) (op : O) (r : R) → IsRun kind v op w r → w ≡ value_run kind v op r
-  run_value v w op r run =
-      elim run [
-        | inl e ↦ stepped v w op r (kind.lacks r) refl (ap (λ (p : V × R). p.0) e) (ap (λ (p : V × R). p.1) e)
-        | inr e ↦ let lacks : kind.lacks r ≡ true = (laws.lacks_is r).1 e.1 in rw lacks e.0
-      ]
 
 module _ {V T : Type 0} where
   moved : {live from : List (Object V T)} (c id i : ℕ) → live ≡ from → Holds live c id i → Holds from c id i

@@ -1,5 +1,5 @@
 -- A Bye alone is orderly for a side that sent nothing.
-use Rattle.std.proofs.Common.{◌≡◌, ℕ, ◌<◌, ◌≢◌, lit<, length, ap, false, List, [], ◌∷◌, ◌++◌, refl, sym, ◌∙◌, subst, arith}
+use Rattle.std.proofs.Common.{◌≡◌, ℕ, ◌<◌, lit<, length, ap, false, List, [], ◌∷◌, ◌++◌, refl, sym, ◌∙◌, subst, arith}
 use Rattle.std.specs.Prelude.{not, IsOk, OnOk}
 use Rattle.std.specs.declared.option.Option.TheVariants.{None}
 use Rattle.std.specs.declared.result.Result.{Result}
@@ -9,8 +9,8 @@ use Rattle.tm_batch.specs.declared.message.Request.{Request}
 use Rattle.tm_batch.specs.declared.message.Request.TheVariants.{Bye}
 use Rattle.tm_batch.specs.declared.message.AnswerBatch.{AnswerBatch}
 use Rattle.tm_model.specs.State.{State}
-use Rattle.tm_model.specs.Holds.{Names}
 use Rattle.tm_model.specs.Orderly.{IsOrderly}
+use Rattle.tm_model.proofs.Byes.{bye_names}
 use Rattle.tm_pair.specs.Views.{ClientView}
 use Rattle.tm_trustee.specs.Above.{IsAt}
 use Rattle.tm_trustee.specs.contracts.stage.Stage.{the_type}
@@ -27,19 +27,6 @@ is_before Out e = absurd cc
 is_before Over e = absurd cc
 
 module _ {V O R T : Type 0} where
-  not_in_none : (before after : List (Request V O R T)) (q : Request V O R T) → [] ≢ before ++ q ∷ after
-  not_in_none [] after q e = cc
-  not_in_none (x ∷ before) after q e = cc
-
-  -- a Bye names no object
-  bye_names : (before after : List (Request V O R T)) (q : Request V O R T) (id : ℕ) → Bye ∷ [] ≡ before ++ q ∷ after → ¬ Names q id
-  bye_names [] after q id e names =
-      let is : q ≡ Bye = cc in
-      subst (λ (x : Request V O R T). Names x id) is names
-  bye_names (x ∷ before) after q id e names =
-      let rest : [] ≡ before ++ q ∷ after = cc in
-      not_in_none before after q rest
-
   first_bye : (opening : State V O R T) (c : ℕ) → IsOrderly opening c [] [] (Bye ∷ [])
   first_bye opening c = record {
     held = λ before after q id e names. absurd (bye_names before after q id e names);
