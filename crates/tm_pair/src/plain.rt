@@ -23,13 +23,25 @@ use tm_seq::Entrusted;
 
 /// A trustee's table in one thread. For contracts alone it keeps the list of the build, and what
 /// was done at it, which tells the slots and the log that it stands for.
-#[derive(Drop)]
 pub struct PlainTable<S: Placed> {
     pub(crate) places: Vec<Place<S>>,
     pub(crate) number: u32,
     pub(crate) config: Config,
     pub(crate) first: Told<First<S>>,
     pub(crate) past: Told<Move<S>>,
+}
+
+/// As a derived one, but proved here: a derived one is proved in each crate that drops a table.
+impl<S: Placed> Drop for PlainTable<S> {
+    fn drop(self) {
+        let PlainTable {
+            places: _,
+            number: _,
+            config: _,
+            first: _,
+            past: _,
+        } = self;
+    }
 }
 
 /// A client's side of a [`PlainTable`]. For contracts alone it keeps what was done at the table by
