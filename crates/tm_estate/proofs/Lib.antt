@@ -15,4 +15,3 @@ pub mod RowsLaunch
 pub mod RowsLive
 pub mod RowsOrder
 pub mod RowsTotal
-pub mod OpenedDriven

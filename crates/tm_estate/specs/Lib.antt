@@ -3,4 +3,3 @@ pub mod Standing
 pub mod Asking
 pub mod Opened
 pub mod Placed
-pub mod Driving

@@ -15,6 +15,3 @@ mod running;
 mod work;
 
 pub use estate::Estate;
-
-#[cfg(test)]
-mod tests;

@@ -1,7 +1,6 @@
-mod Handing
-mod Nothing
+pub mod Handing
+pub mod Nothing
 mod Opening
 mod Returning
-mod Sampling
 mod Stepping
 mod Tabling

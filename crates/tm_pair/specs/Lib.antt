@@ -4,7 +4,6 @@ pub mod Opened
 pub mod Places
 pub mod Plain
 pub mod Rounds
-pub mod Sample
 pub mod Shown
 pub mod Sides
 pub mod Standing

@@ -19,6 +19,3 @@ pub use plain::{PlainClient, PlainTable, PlainTrustee};
 pub use round::{answer_nothing, ask_nothing, once_round};
 pub use small_batch::SmallBatch;
 pub use table::{Collected, Held, PairTable, Since};
-
-#[cfg(test)]
-mod tests;

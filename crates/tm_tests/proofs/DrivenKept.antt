@@ -1,0 +1,180 @@
+-- Trustees stay ready for a turn, and sides seated, through calls at other sides and turns of others.
+use Rattle.std.proofs.Common.{◌≡◌, ◌≢◌, ℕ, zero, suc, ◌+◌, ◌<◌, ◌⊎◌, inl, inr, List, [], ◌∷◌, length, map, refl, sym, ◌∙◌, ap, subst, arith}
+use Rattle.std.proofs.lemmas.List.{length-set, get_or-set_same}
+use Rattle.std.proofs.lemmas.Option.{slice_get_within, slice_get-get_or}
+use Rattle.std.specs.Prelude.{slice_get, slice_set, slice_index_or, IsSomeAnd}
+use Rattle.std.specs.declared.option.Option.{Option}
+use Rattle.std.specs.declared.option.Option.TheVariants.{None, Some}
+use Rattle.tm_seq.specs.Kind.{Kind}
+use Rattle.tm_seq.specs.Counting.{counter_kind}
+use Rattle.tm_seq.specs.declared.counter.Counter.{Counter}
+use Rattle.tm_seq.specs.declared.counter.CounterOp.{CounterOp}
+use Rattle.tm_seq.specs.declared.counter.CounterReply.{CounterReply}
+use Rattle.tm_seq.specs.declared.counter.CounterTask.{CounterTask}
+use Rattle.tm_model.specs.State.{State}
+use Rattle.tm_pair.specs.Views.{ClientView, TrusteeView}
+use Rattle.tm_trustee.specs.Tables.{IsReady, KeepsTables}
+use Rattle.tm_tests.specs.Driving.{counting, IsSeated, IsDriven, KeepsOthers}
+use Rattle.tm_trustee.specs.declared.trustee.Trustee.{Trustee}
+
+pub some_of : {X : Type 0} (o : Option X) (P : X → Type 0) → IsSomeAnd o P → (x : X) × (o ≡ Some x) × P x
+some_of (Some x) P h = (x, refl, h)
+some_of None P h = absurd h
+
+pub is_some : {X : Type 0} (o : Option X) (P : X → Type 0) (x : X) → o ≡ Some x → P x → IsSomeAnd o P
+is_some o P x e h = subst (λ r. IsSomeAnd r P) (sym e) h
+
+module _ {X : Type 0} where
+  pub same_at : (xs : List X) (k : ℕ) (x y : X) → slice_get xs k ≡ Some x → slice_get xs k ≡ Some y → y ≡ x
+  same_at xs k x y ex ey = let same : Some y ≡ Some x = sym ey ∙ ex in cc
+
+  -- a list that is as long as another has an element wherever that has one
+  was_at : (old new : List X) (i : ℕ) (now : X) → length new ≡ length old → slice_get new i ≡ Some now → (was : X) × (slice_get old i ≡ Some was)
+  was_at old new i now same e =
+      let lt : i < length old = subst (λ n. i < n) same (slice_get_within new i now e) in
+      (_, slice_get-get_or old i now lt)
+
+  one_later :
+      (xs : List X) (i k : ℕ) (v w : X) → ((k ≡ i) × (w ≡ v)) ⊎ (slice_get xs k ≡ Some w)
+      → ((suc k ≡ suc i) × (w ≡ v)) ⊎ (slice_get xs k ≡ Some w)
+  one_later xs i k v w (inl h) = inl (ap (λ n. suc n) h.0, h.1)
+  one_later xs i k v w (inr h) = inr h
+
+  -- after a write an element is the one written, or that of before
+  written : (xs : List X) (i k : ℕ) (v w : X) → slice_get (slice_set xs i v) k ≡ Some w → ((k ≡ i) × (w ≡ v)) ⊎ (slice_get xs k ≡ Some w)
+  written [] i k v w e = absurd cc
+  written (x ∷ xs) zero zero v w e = let is : w ≡ v = cc in inl (refl, is)
+  written (x ∷ xs) zero (suc k) v w e = inr e
+  written (x ∷ xs) (suc i) zero v w e = inr e
+  written (x ∷ xs) (suc i) (suc k) v w e = one_later xs i k v w (written xs i k v w e)
+
+  -- so what joins the one of before with the one written joins what stood at each index with what stands there
+  pub joined :
+      (Joins : X → X → Type 0) → ((x : X) → Joins x x) → (xs : List X) (i k : ℕ) (was becomes old new : X)
+      → slice_get xs i ≡ Some was → Joins was becomes → slice_get xs k ≡ Some old → slice_get (slice_set xs i becomes) k ≡ Some new → Joins old new
+  joined Joins self xs i k was becomes old new at joins was_there e =
+      elim (written xs i k becomes new e) [
+        | inl h ↦
+            let here : slice_get xs i ≡ Some old = subst (λ n. slice_get xs n ≡ Some old) h.0 was_there in
+            subst (λ x. Joins x new) (sym (same_at xs i was old at here)) (subst (λ x. Joins was x) (sym h.1) joins)
+        | inr h ↦ subst (λ x. Joins old x) (sym (same_at xs k old new was_there h)) (self old)
+      ]
+
+  mapped : {Y : Type 0} (f : X → Y) (xs : List X) (k : ℕ) (x : X) → slice_get xs k ≡ Some x → slice_get (map f xs) k ≡ Some (f x)
+  mapped f [] k x e = absurd cc
+  mapped f (y ∷ xs) zero x e = let is : y ≡ x = cc in ap (λ z. Some (f z)) is
+  mapped f (y ∷ xs) (suc k) x e = mapped f xs k x e
+
+module _ {V O R T Table : Type 0} (opening_at : Table → State V O R T) where
+  -- what is of a table is of the one at the same number later
+  pub still_of :
+      {A : Type 0} (Has : Table → A → Type 0) (opening : State V O R T) (old new : List Table) (n : ℕ) (a : A) → length new ≡ length old
+      → ((i : ℕ) (was now : Table) → slice_get old i ≡ Some was → slice_get new i ≡ Some now → opening_at now ≡ opening_at was)
+      → ((was now : Table) → slice_get old n ≡ Some was → slice_get new n ≡ Some now → Has was a → Has now a)
+      → IsSomeAnd (slice_get old n) (λ table. (opening_at table ≡ opening) × Has table a)
+      → IsSomeAnd (slice_get new n) (λ table. (opening_at table ≡ opening) × Has table a)
+  still_of Has opening old new n a many openings keeps is =
+      let (was, at, (opens, has)) = some_of (slice_get old n) (λ table. (opening_at table ≡ opening) × Has table a) is in
+      let (now, e) = was_at new old n was (sym many) at in
+      is_some (slice_get new n) (λ table. (opening_at table ≡ opening) × Has table a) now e (openings n was now at e ∙ opens, keeps was now at e has)
+
+module _ {V O R T Table Client : Type 0} (opening_at : Table → State V O R T) (HasClient : Table → Client → Type 0) where
+  -- the table of a side that is seated, as it is read at its index
+  pub seat_of :
+      (tables : List Table) (n : ℕ) (opening : State V O R T) (d : Table) (side : Client)
+      → IsSomeAnd (slice_get tables n) (λ table. (opening_at table ≡ opening) × HasClient table side)
+      → (slice_get tables n ≡ Some (slice_index_or tables n d)) × (opening_at (slice_index_or tables n d) ≡ opening)
+      × HasClient (slice_index_or tables n d) side
+  seat_of tables n opening d side seated =
+      let (table, at, (opens, has)) = some_of (slice_get tables n) (λ x. (opening_at x ≡ opening) × HasClient x side) seated in
+      let here : slice_get tables n ≡ Some (slice_index_or tables n d) = slice_get-get_or tables n d (slice_get_within tables n table at) in
+      let is : table ≡ slice_index_or tables n d = same_at tables n (slice_index_or tables n d) table here at in
+      (here, subst (λ x. opening_at x ≡ opening) is opens, subst (λ x. HasClient x side) is has)
+
+  -- a side after a call of it is seated where it was
+  pub call_seated :
+      (tables : List Table) (n : ℕ) (opening : State V O R T) (d becomes : Table) (side after : Client)
+      → IsSomeAnd (slice_get tables n) (λ table. (opening_at table ≡ opening) × HasClient table side)
+      → opening_at becomes ≡ opening_at (slice_index_or tables n d) → HasClient becomes after
+      → IsSomeAnd (slice_get (slice_set tables n becomes) n) (λ table. (opening_at table ≡ opening) × HasClient table after)
+  call_seated tables n opening d becomes side after seated kept mine =
+      let (at, opens, has) = seat_of tables n opening d side seated in
+      let lt = slice_get_within tables n (slice_index_or tables n d) at in
+      let reads : slice_index_or (slice_set tables n becomes) n d ≡ becomes = get_or-set_same tables n becomes d lt in
+      let more : n < length (slice_set tables n becomes) = subst (λ k. n < k) (sym (length-set tables n becomes)) lt in
+      let here : slice_get (slice_set tables n becomes) n ≡ Some becomes =
+      slice_get-get_or (slice_set tables n becomes) n d more ∙ ap (λ x. Some x) reads in
+      is_some (slice_get (slice_set tables n becomes) n) (λ table. (opening_at table ≡ opening) × HasClient table after) becomes here (kept ∙ opens, mine)
+
+module _ {V O R T Table Client Owner : Type 0} (opening_at : Table → State V O R T) (client_view : Client → ClientView V O R T)
+    (HasClient : Table → Client → Type 0) (HasTrustee : Table → Owner → Type 0) where
+  pub still_ready :
+      (kind : Kind V O R T) (trustee_view : Owner → TrusteeView V O R T) (opening : State V O R T) (old new : List Table)
+      (t : Trustee V Table O R T Client Owner) → length new ≡ length old
+      → ((i : ℕ) (was now : Table) → slice_get old i ≡ Some was → slice_get new i ≡ Some now → opening_at now ≡ opening_at was)
+      → ((was now : Table) → slice_get old t.number ≡ Some was → slice_get new t.number ≡ Some now → HasTrustee was t.side → HasTrustee now t.side)
+      → ((i : ℕ) (was now : Table) (seat : Client) → t.number < i → slice_get old i ≡ Some was → slice_get new i ≡ Some now
+      → (client_view seat).place ≡ t.clients + t.number → HasClient was seat → HasClient now seat)
+      → IsReady opening_at client_view HasClient HasTrustee kind trustee_view opening old t
+      → IsReady opening_at client_view HasClient HasTrustee kind trustee_view opening new t
+  still_ready kind trustee_view opening old new t many openings home above ready =
+      let (config, whole, each) = ready.built.built in
+      record {
+        serving = ready.serving;
+        built = record {
+          built = (config, whole, λ i now e. let (was, at) = was_at old new i now many e in openings i was now at e ∙ each i was at);
+        };
+        home = still_of opening_at HasTrustee opening old new t.number t.side many openings home ready.home;
+        above = record {
+          as_many = ready.above.as_many ∙ sym many;
+          mine = λ i now seat e of.
+              let (was, at) = was_at old new (t.number + 1 + i) now many e in
+              let up = ready.serving.above.places i (client_view seat) (mapped client_view t.above.items i seat of) in
+              above (t.number + 1 + i) was now seat (omega arith) at e up (ready.above.mine i was seat at of);
+        };
+      }
+
+module _ {Table Client Owner : Type 0} (opening_at : Table → State Counter CounterOp CounterReply CounterTask)
+    (client_view : Client → ClientView Counter CounterOp CounterReply CounterTask) (HasClient : Table → Client → Type 0)
+    (HasTrustee : Table → Owner → Type 0) (trustee_view : Owner → TrusteeView Counter CounterOp CounterReply CounterTask) where
+  place_above : (old : List Table) (n : ℕ) (t : Trustee Counter Table CounterOp CounterReply CounterTask Client Owner)
+      → IsDriven opening_at client_view HasClient HasTrustee trustee_view old n t → (t.number ≡ n) × (t.clients ≡ 1)
+  place_above old n t ready = (ready.serving.number, ready.serving.clients)
+
+  -- a call at a side of place c of the table of number n
+  pub call_keeps :
+      (old : List Table) (n c : ℕ) (was becomes : Table) → slice_get old n ≡ Some was → opening_at becomes ≡ opening_at was
+      → ((other : Client) → (client_view other).place ≢ c → HasClient was other → HasClient becomes other)
+      → ((other : Owner) → HasTrustee was other → HasTrustee becomes other)
+      → KeepsOthers opening_at client_view HasClient HasTrustee trustee_view old (slice_set old n becomes) c
+  call_keeps old n c was becomes at opening clients trustees =
+      let new : List Table = slice_set old n becomes in
+      let many : length new ≡ length old = length-set old n becomes in
+      let openings : (i : ℕ) (x y : Table) → slice_get old i ≡ Some x → slice_get new i ≡ Some y → opening_at y ≡ opening_at x =
+      λ i x y ex ey. joined (λ a b. opening_at b ≡ opening_at a) (λ a. refl) old n i was becomes x y at opening ex ey in
+      record {
+        sides = λ m other ne seated.
+            still_of opening_at HasClient (counting m) old new m other many openings
+            (λ x y ex ey. joined (λ a b. HasClient a other → HasClient b other) (λ a h. h) old n m was becomes x y at (clients other ne) ex ey) seated;
+        trustees = λ m t ne ready.
+            let (is, ones) = place_above old m t ready in
+            still_ready opening_at client_view HasClient HasTrustee counter_kind trustee_view (counting m) old new t many openings
+            (λ x y ex ey. joined (λ a b. HasTrustee a t.side → HasTrustee b t.side) (λ a h. h) old n t.number was becomes x y at (trustees t.side) ex ey)
+            (λ i x y seat lt ex ey up.
+            joined (λ a b. HasClient a seat → HasClient b seat) (λ a h. h) old n i was becomes x y at
+            (clients seat (λ same. ne (omega (arith, is, ones, up, same)))) ex ey)
+            ready;
+      }
+
+  -- a turn of trustee n leaves the sides of its own table
+  pub turn_keeps :
+      (old new : List Table) (n : ℕ) (t : Trustee Counter Table CounterOp CounterReply CounterTask Client Owner)
+      → IsDriven opening_at client_view HasClient HasTrustee trustee_view old n t
+      → KeepsTables opening_at client_view HasClient HasTrustee old new t.number (t.clients + t.number) → (other : Client)
+      → IsSeated opening_at client_view HasClient HasTrustee trustee_view old n other → IsSeated opening_at client_view HasClient HasTrustee trustee_view new n other
+  turn_keeps old new n t ready keeps other seated =
+      let (is, ones) = place_above old n t ready in
+      still_of opening_at HasClient (counting n) old new n other keeps.as_many keeps.openings
+      (λ x y ex ey.
+      keeps.clients_here x y (subst (λ k. slice_get old k ≡ Some x) (sym is) ex) (subst (λ k. slice_get new k ≡ Some y) (sym is) ey) other)
+      seated

@@ -1,0 +1,4 @@
+mod DrivenAsked
+mod DrivenFirst
+mod DrivenKept
+mod Sampling

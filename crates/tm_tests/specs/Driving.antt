@@ -1,0 +1,63 @@
+-- For tests: a runtime of one client and two trustees, of which the greater has a counter of 0 that the client holds.
+use Rattle.std.specs.Prelude.{◌≡◌, ◌≢◌, ℕ, ◌+◌, false, List, [], ◌∷◌, slice_get, IsSomeAnd}
+use Rattle.tm_seq.specs.Counting.{counter_kind}
+use Rattle.tm_seq.specs.declared.counter.Counter.{Counter}
+use Rattle.tm_seq.specs.declared.counter.CounterOp.{CounterOp}
+use Rattle.tm_seq.specs.declared.counter.CounterOp.TheVariants.{Add}
+use Rattle.tm_seq.specs.declared.counter.CounterReply.{CounterReply}
+use Rattle.tm_seq.specs.declared.counter.CounterTask.{CounterTask}
+use Rattle.tm_batch.specs.declared.message.Request.{Request}
+use Rattle.tm_batch.specs.declared.message.Request.TheVariants.{Apply, Release}
+use Rattle.tm_batch.specs.declared.config.Config.{Config}
+use Rattle.tm_batch.specs.declared.config.First.{First}
+use Rattle.tm_model.specs.State.{State}
+use Rattle.tm_model.specs.Opening.{opening_of}
+use Rattle.tm_model.specs.Holds.{has_bye, launches_in, ended_in}
+use Rattle.tm_pair.specs.Views.{ClientView, TrusteeView}
+use Rattle.tm_pair.specs.declared.table.Collected.{Collected}
+use Rattle.tm_pair.specs.declared.table.Collected.TheVariants.{Answers, Pending, Idle}
+use Rattle.tm_trustee.specs.Tables.{IsReady}
+use Rattle.tm_tests.specs.Sample.{the_name}
+use Rattle.tm_trustee.specs.declared.trustee.Trustee.{Trustee}
+
+abbrev pub small : Config
+small = record { clients = 1; trustees = 2; objects = 4; trusts = 4; last_id = 9 }
+
+abbrev pub one_counter : List (First Counter)
+one_counter = record { trustee = 1; value = record { value = 0 }; holders = 0 ∷ [] } ∷ []
+
+-- the state in which trustee n opens
+abbrev pub counting : ℕ → State Counter CounterOp CounterReply CounterTask
+counting n = opening_of n small one_counter
+
+-- 5 is added to it, and it is given up
+abbrev pub adds_and_releases : {V R T : Type 0} → List (Request V CounterOp R T)
+adds_and_releases = Apply the_name (Add 5) ∷ Release the_name ∷ []
+
+-- answers were found by which no launch ended
+abbrev pub EndsNothing : {V O R T : Type 0} → Collected V O R T → Type 0
+EndsNothing (Answers a) = ended_in (a ∷ []) ≡ 0
+EndsNothing Pending = ⊥
+EndsNothing Idle = ⊥
+
+-- a side said no Bye, and none of its launches lacks its completion, of which there were none
+pub record MayBye {V O R T : Type 0} (view : ClientView V O R T) : Type 0 where
+  pub before : has_bye view.sent ≡ false
+  pub launches : launches_in view.sent ≡ 0
+  pub ended : ended_in view.got ≡ 0
+
+module _ {Table Client Owner : Type 0} (opening_at : Table → State Counter CounterOp CounterReply CounterTask)
+    (client_view : Client → ClientView Counter CounterOp CounterReply CounterTask) (HasClient : Table → Client → Type 0)
+    (HasTrustee : Table → Owner → Type 0) (trustee_view : Owner → TrusteeView Counter CounterOp CounterReply CounterTask) where
+  -- a side is of the table of trustee n
+  abbrev pub IsSeated : List Table → ℕ → Client → Type 0
+  IsSeated tables n side = IsSomeAnd (slice_get tables n) (λ table. (opening_at table ≡ counting n) × HasClient table side)
+
+  -- trustee n is ready for a turn
+  abbrev pub IsDriven : List Table → ℕ → Trustee Counter Table CounterOp CounterReply CounterTask Client Owner → Type 0
+  IsDriven tables n t = IsReady opening_at client_view HasClient HasTrustee counter_kind trustee_view (counting n) tables t
+
+  -- what a call at a side of place c leaves of other sides, and of trustees that have another place above
+  pub record KeepsOthers (old new : List Table) (c : ℕ) : Type 0 where
+    pub sides : (n : ℕ) (other : Client) → (client_view other).place ≢ c → IsSeated old n other → IsSeated new n other
+    pub trustees : (n : ℕ) (t : Trustee Counter Table CounterOp CounterReply CounterTask Client Owner) → 1 + n ≢ c → IsDriven old n t → IsDriven new n t

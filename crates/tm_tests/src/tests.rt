@@ -1,0 +1,4 @@
+//! Small runs whose answers the rules give.
+
+mod slots;
+mod turns;

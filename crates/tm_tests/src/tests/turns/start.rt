@@ -1,0 +1,83 @@
+//! A runtime of one client and two trustees, of which the greater has a counter.
+ghost use Rattle.std.specs.Prelude.{◌≡◌, [], map, IfOk};
+ghost use Rattle.tm_seq.specs.Counting.{counter_kind};
+ghost use Rattle.tm_model.specs.Laws.{first_of};
+ghost use Rattle.tm_pair.specs.Opened.{IsOpened};
+ghost use Rattle.tm_pair.specs.Stands.{trustee_of};
+ghost use Rattle.tm_pair.specs.Plain.{client_at, trustee_at};
+ghost use Rattle.tm_tests.specs.Driving.{one_counter, counting};
+ghost use Rattle.tm_trustee.specs.Standing.{IsServing};
+
+use std::alloc::{AllocError, Global};
+use tm_batch::{Config, First, Holders};
+use tm_pair::{PlainClient, PlainTable, PlainTrustee};
+use tm_seq::Counter;
+use tm_trustee::Trustee;
+
+const SMALL: Config = Config {
+    clients: 1,
+    trustees: 2,
+    objects: 4,
+    trusts: 4,
+    last_id: 9,
+};
+
+/// The counter of 0, which client 0 holds.
+fn one_counter(alloc: Global) -> Result<Vec<First<Counter>>, AllocError>
+    ensures { IfOk result (λ first. first.items ≡ one_counter) }
+{
+    let holders = Holders::new(vec![in alloc; 0]?);
+    Ok(vec![in alloc;
+        First {
+            trustee: 1,
+            value: Counter { value: 0 },
+            holders,
+        },
+    ]?)
+}
+
+/// A trustee's table, with its sides.
+type Opened = (
+    PlainTable<Counter>,
+    Vec<PlainClient<Counter>>,
+    PlainTrustee<Counter>,
+);
+
+/// The table of the lesser trustee.
+pub(super) fn low(alloc: Global) -> Result<Opened, AllocError>
+    ensures { IfOk result (λ r. IsOpened counter_kind (counting 0) r.0 r.1.items r.2) }
+{
+    PlainTable::new(alloc, 0, SMALL, &one_counter(alloc)?)
+}
+
+/// The table of the greater one.
+pub(super) fn high(alloc: Global) -> Result<Opened, AllocError>
+    ensures { IfOk result (λ r. IsOpened counter_kind (counting 1) r.0 r.1.items r.2) }
+{
+    PlainTable::new(alloc, 1, SMALL, &one_counter(alloc)?)
+}
+
+/// The greater trustee.
+pub(super) fn greater(
+    alloc: Global,
+    side: PlainTrustee<Counter>,
+) -> Result<Trustee<Counter, PlainTable<Counter>>, AllocError>
+    requires { trustee_at side ≡ trustee_of (first_of (counting 1)) }
+    ensures serving { IfOk result (λ t. IsServing counter_kind (counting 1) t.number t.clients t.estate (trustee_at t.side) t.stages.items (map client_at t.above.items) t.nested.items) }
+    ensures side { IfOk result (λ t. t.side ≡ side) }
+    ensures above { IfOk result (λ t. t.above.items ≡ []) }
+{
+    let first = one_counter(alloc)?;
+    match Trustee::new(
+        alloc,
+        1,
+        SMALL,
+        first,
+        side,
+        Vec::new(alloc),
+        Vec::new(alloc),
+    ) {
+        Ok(trustee) => Ok(trustee),
+        Err(_) => Err(AllocError),
+    }
+}
