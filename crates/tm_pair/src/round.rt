@@ -1,5 +1,5 @@
 //! One round of an empty batch through any table.
-ghost use Rattle.std.specs.Prelude.{◌≡◌, ◌≢◌, ℕ, ◌+◌, ◌-◌, ◌^◌, ◌<◌, ◌↔◌, min, List, [], length, IsTrue, IsOk, OnOk, OnErr, IsSomeAnd};
+ghost use Rattle.std.specs.Prelude.{◌≡◌, ◌≢◌, ℕ, ◌+◌, ◌-◌, ◌^◌, ◌<◌, ◌↔◌, min, List, [], length, IsTrue, IsOk, OnOk, OnErr, IfErr, IsSomeAnd};
 ghost use Rattle.std.specs.declared.option.Option.{Option};
 ghost use Rattle.std.specs.declared.option.Option.TheVariants.{None, Some};
 ghost use Rattle.tm_batch.specs.declared.batch.Batch.{Batch};
@@ -16,7 +16,8 @@ use tm_batch::{AnswerBatch, Batch, Small};
 use tm_core::{batches_have_all_answers, batches_join, legal_logs_join, states_are_sound};
 use tm_seq::Entrusted;
 
-/// Publishes a batch with no request and no room for gifts.
+/// Publishes a batch with no request and no room for gifts, or hands it back where the last one was not
+/// collected.
 pub fn ask_nothing<S: Entrusted, P: PairTable<S>>(
     table: &mut P,
     side: &mut P::ClientSide,
@@ -25,6 +26,7 @@ pub fn ask_nothing<S: Entrusted, P: PairTable<S>>(
     ensures free { IsOk result ↔ ((P.client_view side.old).out ≡ None) }
     ensures ok { OnOk result (Publishes [] 0 (P.client_view side.old) (P.client_view side.new)) }
     ensures err { OnErr result (P.client_view side.new ≡ P.client_view side.old) }
+    ensures back { IfErr result (λ held. (held.0.requests.items ≡ []) × (held.0.room ≡ 0)) }
     ensures mine { P.HasClient table.new side.new }
     ensures opening { P.opening table.new ≡ P.opening table.old }
     ensures clients { (other : P.ClientSide) → (P.client_view other).place ≢ (P.client_view side.old).place → P.HasClient table.old other → P.HasClient table.new other }
