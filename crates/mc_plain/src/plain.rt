@@ -107,7 +107,7 @@ impl Plain {
     }
 
     /// The allocator of all that the class makes.
-    pub fn allocator(&self) -> Global {
+    pub(crate) fn allocator(&self) -> Global {
         self.alloc
     }
 
