@@ -1,4 +1,4 @@
-//! A set of keys that gives its members out in time of how many they are.
+//! A set of keys that gives its members out and looks at no other key.
 //!
 //! It is a sparse set: the members stand in a list, in no order, and each key has its position in
 //! that list. A key comes in at the list's end, and where one goes the last takes its position. So a

@@ -210,8 +210,8 @@ impl<V: Drop> LiveObjects<V> {
         self.slots[key].value_mut()
     }
 
-    /// Takes all holds of a place away, in time of how many objects it holds, and drops the values on
-    /// which no hold is left. How many.
+    /// Takes all holds of a place away, looking at the objects that it holds alone, and drops the values
+    /// on which no hold is left. How many.
     pub fn drop_holds(&mut self, place: u32) -> u32
         requires { place < self.old.places }
         ensures count { result + length self.new.live ≡ length self.old.live }

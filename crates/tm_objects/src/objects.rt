@@ -115,7 +115,7 @@ impl<S: Entrusted> Objects<S> {
         self.live.total(name)
     }
 
-    /// Whether an id is live.
+    /// Whether an id is live. Where the name's place is not its own, each object is looked at.
     pub fn is_live(&self, name: Name) -> bool
         ensures { IsTrue result ↔ IsSome (object_of self.now.live name.id) }
     {
@@ -156,7 +156,7 @@ impl<S: Entrusted> Objects<S> {
         self.live.begin(name);
     }
 
-    /// Takes the hold of a launch away.
+    /// Takes the hold of a launch away. The value is dropped with the last hold.
     pub fn finish(&mut self, name: Name) -> Left
         requires { HasLive self.old.live name.id (λ o. 1 ≤ o.launches) }
         ensures left { HasLive self.old.live name.id (λ o. result ≡ left_of (with_launches (o.launches - 1) o)) }
@@ -165,7 +165,7 @@ impl<S: Entrusted> Objects<S> {
         self.live.finish(name)
     }
 
-    /// Takes a hold of a place away.
+    /// Takes a hold of a place away. The value is dropped with the last hold.
     pub fn release(&mut self, name: Name, place: u32) -> Left
         requires live { HasLive self.old.live name.id (λ o. 1 ≤ holds_of o place) }
         requires place { place < length self.old.gifts }
@@ -175,7 +175,7 @@ impl<S: Entrusted> Objects<S> {
         self.live.release(name, place)
     }
 
-    /// Takes a value back, where the one hold of a place is all that is left.
+    /// Takes a value back, where the one hold of a place is all that is left. Else nothing changes.
     pub fn reclaim(&mut self, name: Name, place: u32) -> Result<S, More>
         requires live { HasLive self.old.live name.id (λ o. 1 ≤ holds_of o place) }
         requires place { place < length self.old.gifts }
@@ -197,8 +197,8 @@ impl<S: Entrusted> Objects<S> {
         self.live.value_mut(name)
     }
 
-    /// Takes all holds and waiting gifts of a place away, in time of how many it has. How many
-    /// objects went.
+    /// Takes all holds and waiting gifts of a place away, and looks at no object that it doesn't hold.
+    /// How many objects went.
     pub fn drop_client(&mut self, place: u32) -> u32
         requires { place < length self.old.gifts }
         ensures count { result + length self.new.live ≡ length self.old.live }

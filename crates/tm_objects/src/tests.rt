@@ -9,28 +9,33 @@ use std::test::Fail;
 use tm_batch::{Name, Refusal};
 use tm_seq::{Counter, CounterOp, CounterReply, Entrusted};
 
-/// The counters of a trustee with two places. A call that may not be made answers `None`.
+/// The counters of a trustee with few places. A call that may not be made answers `None`.
 #[derive(Drop)]
-struct Two {
+struct Few {
     objects: Objects<Counter>,
-    ghost two: { length objects.gifts ≡ 2 },
+    places: u32,
+    ghost counted: { length objects.gifts ≡ places },
 }
 
-impl Two {
-    fn new(alloc: Global, objects: u32, last_id: u64) -> Result<Two, AllocError> {
-        Ok(Two {
-            objects: Objects::new(alloc, objects, last_id, 2)?,
+impl Few {
+    fn new(alloc: Global, objects: u32, last_id: u64, places: u32) -> Result<Few, AllocError> {
+        Ok(Few {
+            objects: Objects::new(alloc, objects, last_id, places)?,
+            places,
         })
     }
 
     fn entrust(&mut self, place: u32, value: u64) -> Option<Name> {
-        if place >= 2 {
+        if place >= self.places {
             return None;
         }
         self.objects.entrust(place, Counter { value }).ok()
     }
 
     fn refusal(&mut self, value: u64) -> Option<(Refusal, u64)> {
+        if self.places == 0 {
+            return None;
+        }
         match self.objects.entrust(0, Counter { value }) {
             Ok(_) => None,
             Err((refusal, back)) => Some((refusal, back.value)),
@@ -38,35 +43,44 @@ impl Two {
     }
 
     fn count(&self, name: Name, place: u32) -> Option<u32> {
-        if place >= 2 || !self.objects.is_live(name) {
+        if place >= self.places || !self.objects.is_live(name) {
             return None;
         }
         Some(self.objects.count(name, place))
     }
 
     fn grant(&mut self, name: Name, to: u32) -> Option<bool> {
-        if to >= 2 || !self.objects.is_live(name) || self.objects.total(name) == u64::MAX {
+        if to >= self.places
+            || !self.objects.is_live(name)
+            || self.objects.total(name) == u64::MAX
+        {
             return None;
         }
         Some(self.objects.grant(name, to))
     }
 
     fn gift(&mut self, place: u32) -> Option<Name> {
-        if place >= 2 {
+        if place >= self.places {
             return None;
         }
         self.objects.take_gift(place)
     }
 
     fn release(&mut self, name: Name, place: u32) -> Option<Left> {
-        if place >= 2 || !self.objects.is_live(name) || self.objects.count(name, place) == 0 {
+        if place >= self.places
+            || !self.objects.is_live(name)
+            || self.objects.count(name, place) == 0
+        {
             return None;
         }
         Some(self.objects.release(name, place))
     }
 
     fn reclaim(&mut self, name: Name, place: u32) -> Option<u64> {
-        if place >= 2 || !self.objects.is_live(name) || self.objects.count(name, place) == 0 {
+        if place >= self.places
+            || !self.objects.is_live(name)
+            || self.objects.count(name, place) == 0
+        {
             return None;
         }
         self.objects
@@ -93,7 +107,7 @@ impl Two {
     }
 
     fn drop_client(&mut self, place: u32) -> Option<u32> {
-        if place >= 2 {
+        if place >= self.places {
             return None;
         }
         Some(self.objects.drop_client(place))
@@ -110,105 +124,106 @@ fn run_on<S: Entrusted>(objects: &mut Objects<S>, name: Name, op: S::Op) -> S::R
 
 #[test]
 fn refuses_a_full_trustee_before_spent_ids(rt: HostRuntime) -> Result<(), Fail> {
-    let mut two = Two::new(rt.alloc(), 1, 1)?;
-    let name = two.entrust(0, 5).unwrap_or_default();
+    let mut few = Few::new(rt.alloc(), 1, 1, 2)?;
+    let name = few.entrust(0, 5).unwrap_or_default();
     assert_eq!(rt; name.id, 1);
-    assert_eq!(rt; two.refusal(6), Some((Refusal::ObjectsFull, 6)));
-    assert_eq!(rt; two.release(name, 0), Some(Left::Dropped));
-    assert_eq!(rt; two.refusal(7), Some((Refusal::SerialsSpent, 7)));
+    assert_eq!(rt; few.refusal(6), Some((Refusal::ObjectsFull, 6)));
+    assert_eq!(rt; few.release(name, 0), Some(Left::Dropped));
+    assert_eq!(rt; few.refusal(7), Some((Refusal::SerialsSpent, 7)));
     Ok(())
 }
 
 #[test]
 fn never_gives_an_id_again(rt: HostRuntime) -> Result<(), Fail> {
-    let mut two = Two::new(rt.alloc(), 1, 2)?;
+    let mut few = Few::new(rt.alloc(), 1, 2, 1)?;
     for want in 1..3u64 {
-        let name = two.entrust(0, 5).unwrap_or_default();
+        let name = few.entrust(0, 5).unwrap_or_default();
         assert_eq!(rt; name.id, want);
-        assert_eq!(rt; two.release(name, 0), Some(Left::Dropped));
-        assert!(rt; !two.objects.is_live(name));
+        assert_eq!(rt; few.refusal(6), Some((Refusal::ObjectsFull, 6)));
+        assert_eq!(rt; few.release(name, 0), Some(Left::Dropped));
+        assert!(rt; !few.objects.is_live(name));
     }
-    assert_eq!(rt; two.refusal(7), Some((Refusal::SerialsSpent, 7)));
+    assert_eq!(rt; few.refusal(7), Some((Refusal::SerialsSpent, 7)));
     Ok(())
 }
 
 #[test]
 fn gifts_leave_in_order_and_their_holds_stay(rt: HostRuntime) -> Result<(), Fail> {
-    let mut two = Two::new(rt.alloc(), 4, 9)?;
-    let first = two.entrust(0, 1).unwrap_or_default();
-    let second = two.entrust(0, 2).unwrap_or_default();
-    assert_eq!(rt; two.grant(second, 1), Some(true));
-    assert_eq!(rt; two.grant(first, 1), Some(true));
-    assert_eq!(rt; two.reclaim(second, 0), None);
-    assert_eq!(rt; two.gift(1), Some(second));
-    assert_eq!(rt; two.gift(1), Some(first));
-    assert_eq!(rt; two.gift(1), None);
-    assert_eq!(rt; two.count(second, 1), Some(1));
-    assert_eq!(rt; two.release(second, 0), Some(Left::More));
-    assert!(rt; matches!(two.add(second, 5), Some(CounterReply::Is(7))));
-    assert_eq!(rt; two.reclaim(second, 1), Some(7));
-    assert_eq!(rt; two.release(second, 1), None);
+    let mut few = Few::new(rt.alloc(), 4, 9, 2)?;
+    let first = few.entrust(0, 1).unwrap_or_default();
+    let second = few.entrust(0, 2).unwrap_or_default();
+    assert_eq!(rt; few.grant(second, 1), Some(true));
+    assert_eq!(rt; few.grant(first, 1), Some(true));
+    assert_eq!(rt; few.reclaim(second, 0), None);
+    assert_eq!(rt; few.gift(1), Some(second));
+    assert_eq!(rt; few.gift(1), Some(first));
+    assert_eq!(rt; few.gift(1), None);
+    assert_eq!(rt; few.count(second, 1), Some(1));
+    assert_eq!(rt; few.release(second, 0), Some(Left::More));
+    assert!(rt; matches!(few.add(second, 5), Some(CounterReply::Is(7))));
+    assert_eq!(rt; few.reclaim(second, 1), Some(7));
+    assert_eq!(rt; few.release(second, 1), None);
     Ok(())
 }
 
 #[test]
 fn as_many_gifts_wait_as_may(rt: HostRuntime) -> Result<(), Fail> {
-    let mut two = Two::new(rt.alloc(), 4, 9)?;
-    let first = two.entrust(0, 1).unwrap_or_default();
-    let second = two.entrust(0, 2).unwrap_or_default();
+    let mut few = Few::new(rt.alloc(), 4, 9, 2)?;
+    let first = few.entrust(0, 1).unwrap_or_default();
+    let second = few.entrust(0, 2).unwrap_or_default();
     for _ in 0..1024u32 {
-        assert_eq!(rt; two.grant(first, 1), Some(true));
+        assert_eq!(rt; few.grant(first, 1), Some(true));
     }
-    assert_eq!(rt; two.grant(second, 1), Some(false));
-    assert_eq!(rt; two.count(second, 1), Some(0));
-    assert_eq!(rt; two.gift(1), Some(first));
-    assert_eq!(rt; two.grant(second, 1), Some(true));
+    assert_eq!(rt; few.grant(second, 1), Some(false));
+    assert_eq!(rt; few.count(second, 1), Some(0));
+    assert_eq!(rt; few.gift(1), Some(first));
+    assert_eq!(rt; few.grant(second, 1), Some(true));
     for _ in 0..1023u32 {
-        assert_eq!(rt; two.gift(1), Some(first));
+        assert_eq!(rt; few.gift(1), Some(first));
     }
-    assert_eq!(rt; two.gift(1), Some(second));
+    assert_eq!(rt; few.gift(1), Some(second));
     Ok(())
 }
 
 #[test]
 fn a_place_that_goes_takes_its_gifts(rt: HostRuntime) -> Result<(), Fail> {
-    let mut two = Two::new(rt.alloc(), 4, 9)?;
-    let kept = two.entrust(0, 3).unwrap_or_default();
-    let gone = two.entrust(1, 4).unwrap_or_default();
+    let mut few = Few::new(rt.alloc(), 4, 9, 2)?;
+    let kept = few.entrust(0, 3).unwrap_or_default();
+    let gone = few.entrust(1, 4).unwrap_or_default();
     for _ in 0..17u32 {
-        assert_eq!(rt; two.grant(kept, 1), Some(true));
+        assert_eq!(rt; few.grant(kept, 1), Some(true));
     }
-    assert_eq!(rt; two.drop_client(1), Some(1));
-    assert!(rt; !two.objects.is_live(gone));
-    assert_eq!(rt; two.gift(1), None);
-    assert_eq!(rt; two.count(kept, 1), Some(0));
-    assert_eq!(rt; two.reclaim(kept, 0), Some(3));
+    assert_eq!(rt; few.drop_client(1), Some(1));
+    assert!(rt; !few.objects.is_live(gone));
+    assert_eq!(rt; few.gift(1), None);
+    assert_eq!(rt; few.count(kept, 1), Some(0));
+    assert_eq!(rt; few.reclaim(kept, 0), Some(3));
     Ok(())
 }
 
 #[test]
 fn a_launch_holds_an_object(rt: HostRuntime) -> Result<(), Fail> {
-    let mut two = Two::new(rt.alloc(), 4, 9)?;
-    let name = two.entrust(0, 3).unwrap_or_default();
-    assert_eq!(rt; two.launch(name), Some((Left::More, 2)));
-    assert_eq!(rt; two.count(name, 0), Some(1));
+    let mut few = Few::new(rt.alloc(), 4, 9, 2)?;
+    let name = few.entrust(0, 3).unwrap_or_default();
+    assert_eq!(rt; few.launch(name), Some((Left::More, 2)));
+    assert_eq!(rt; few.count(name, 0), Some(1));
     Ok(())
 }
 
 #[test]
 fn the_id_alone_names_an_object(rt: HostRuntime) -> Result<(), Fail> {
-    let mut two = Two::new(rt.alloc(), 2, 9)?;
-    let first = two.entrust(0, 1).unwrap_or_default();
-    let second = two.entrust(0, 2).unwrap_or_default();
+    let mut few = Few::new(rt.alloc(), 2, 9, 2)?;
+    let first = few.entrust(0, 1).unwrap_or_default();
+    let second = few.entrust(0, 2).unwrap_or_default();
     let elsewhere = Name {
         id: second.id,
         place: first.place,
     };
-    assert_eq!(rt; two.count(elsewhere, 0), Some(1));
-    assert_eq!(rt; two.release(first, 0), Some(Left::Dropped));
-    let third = two.entrust(1, 3).unwrap_or_default();
+    assert_eq!(rt; few.count(elsewhere, 0), Some(1));
+    assert_eq!(rt; few.release(first, 0), Some(Left::Dropped));
+    let third = few.entrust(1, 3).unwrap_or_default();
     assert_eq!(rt; third.place, first.place);
-    assert_eq!(rt; two.count(first, 1), None);
-    assert_eq!(rt; two.reclaim(elsewhere, 0), Some(2));
+    assert_eq!(rt; few.count(first, 1), None);
+    assert_eq!(rt; few.reclaim(elsewhere, 0), Some(2));
     Ok(())
 }
