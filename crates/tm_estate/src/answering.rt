@@ -10,8 +10,9 @@ use tm_batch::{AnswerBatch, Batch, Small};
 impl<S: Small> Estate<S> {
     /// Runs all requests of a batch of a place, in order, each once it has passed the gate, and gives the
     /// answers that leave: one for each request, and the gifts that wait for the place as far as the batch has
-    /// room. Launched work that ended would leave with them; none goes on yet. It allocates nothing, and costs in
-    /// the requests and the gifts, a `Bye` in what its place holds.
+    /// room. Launched work that ended would leave with them; none goes on yet. Beside what the operations do it
+    /// allocates nothing. Its time is that of the requests and the gifts; a `Bye` takes as long as its place holds
+    /// objects and gifts.
     pub fn answer<G: Gate>(&mut self, gate: &G, place: u32, batch: Batch<S>) -> AnswerBatch<S>
         requires { IsAnswerable S.kind place batch.requests.items self.old }
         ensures { HasAnswered S.kind place batch.requests.items batch.room result self.old self.new }

@@ -17,8 +17,9 @@ const MOST_LAUNCHES: usize = 64;
 
 impl<S: Entrusted> Estate<S> {
     /// What trustee `number` has at first, of a runtime built from a config and a list of objects of which
-    /// `first` are those placed on it, in order. All room is reserved, so that nothing allocates afterwards.
-    /// Where memory lacks the objects come back.
+    /// `first` are those placed on it, in order. All room is reserved, so that nothing allocates afterwards but the
+    /// operations: that of [`Objects::new`], and 64 launches for each place. Where memory lacks the objects come
+    /// back.
     pub fn new(
         alloc: Global,
         number: u32,

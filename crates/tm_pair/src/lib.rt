@@ -1,7 +1,8 @@
 //! A table of slots between clients and a trustee, for whoever holds one of its sides.
 //!
 //! [`PairTable`] says what the calls of any such table do, whether its sides are on one thread or on
-//! many.
+//! many. [`PlainTable`] is such a table whose sides are all on one thread. [`once_round`] is one round
+//! of an empty batch, through any table.
 #![tactic(auto)]
 
 mod moves;

@@ -15,7 +15,9 @@ use tm_batch::{Config, First};
 impl<S: Placed> PlainTable<S> {
     /// The table of trustee `number` of a runtime that is built from a config and a list of
     /// objects, one client's side for each of its `config.clients + number` places in order, and
-    /// the trustee's side. Nothing allocates afterwards. An error is want of memory.
+    /// the trustee's side. The config and the list must be as a runtime may be built from them. A
+    /// place has room for one batch of 16 requests or of 16 answers, 16 gifts and 16 completions.
+    /// Nothing allocates afterwards. An error is want of memory.
     pub fn new(
         alloc: Global,
         number: u32,

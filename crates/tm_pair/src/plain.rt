@@ -21,8 +21,8 @@ use tm_base::Told;
 use tm_batch::{AnswerBatch, Batch, Config, First};
 use tm_seq::Entrusted;
 
-/// A trustee's table in one thread. For contracts alone it keeps the list of the build, and what
-/// was done at it, which tells the slots and the log that it stands for.
+/// A trustee's table in one thread. For contracts alone it keeps its number, the config and the list
+/// of the build, and what was done at it, which tells the slots and the log that it stands for.
 pub struct PlainTable<S: Placed> {
     pub(crate) places: Vec<Place<S>>,
     pub(crate) number: u32,

@@ -132,7 +132,8 @@ fn answer_free<S: SmallBatch, P: PairTable<S>>(
 }
 
 /// One round: a client's side with nothing out asks nothing, the trustee looks at its place and
-/// answers, and the client looks for the answers. `front` is the length of the log with its answer.
+/// answers, and the client looks for the answers. No batch of the place may be in hand, and nothing may
+/// wait for it in the trustee's log. `front` is the length of the log with its answer.
 /// Another thread may come between any two of the three calls, so the trustee may find no batch, and
 /// the client no answers yet.
 pub fn once_round<S: SmallBatch, P: PairTable<S>>(

@@ -74,7 +74,10 @@ pub trait PairTable<S: Entrusted> {
     /// one thread tells its words, its boxes and its log; one that others change meanwhile, nothing.
     ghost Moved: { Move S S.Op S.Reply S.Task → Self → Self → Type 0 };
 
-    /// Sends a batch to the trustee, or hands it back where the last one was not collected.
+    /// Sends a batch to the trustee, or hands it back where the last one was not collected. The batch
+    /// has to be orderly after what the side sent and got: the side then holds each id that a request
+    /// names, a grant is to a client, at most 64 launches lack their completion, a `Bye` stands alone
+    /// and nothing follows it, and a trustee's place sends applies and a `Bye` alone.
     fn publish(&mut self, side: &mut Self::ClientSide, batch: Batch<S>) -> Result<(), Held<S>>
         requires mine { HasClient self.old side.old }
         requires orderly { MaySend (opening self.old) (client_view side.old) batch.requests.items }
@@ -100,7 +103,9 @@ pub trait PairTable<S: Entrusted> {
         ensures clients { (other : Self.ClientSide) → (client_view other).place ≢ (client_view side.old).place → HasClient self.old other → HasClient self.new other }
         ensures trustee { (other : Self.TrusteeSide) → HasTrustee self.old other → HasTrustee self.new other };
 
-    /// Looks for a batch of a place of which none is in hand, and takes it in hand.
+    /// Looks for a batch of a place of which none is in hand, and takes it in hand. It is orderly, and
+    /// whatever is resumed first, each id that a request of it names is live and held by the place once
+    /// the requests before were run.
     fn see(&mut self, side: &mut Self::TrusteeSide, client: u32) -> Option<Batch<S>>
         requires mine { HasTrustee self.old side.old }
         requires in_range { client < place_count (opening self.old).setup }
@@ -111,8 +116,10 @@ pub trait PairTable<S: Entrusted> {
         ensures mine { HasTrustee self.new side.new }
         ensures clients { (other : Self.ClientSide) → HasClient self.old other → HasClient self.new other };
 
-    /// Answers the batch of a place that is in hand. The trustee's log grows by the resumes that
-    /// the call picks, and then by the entries of the batch.
+    /// Answers the batch of a place that is in hand: an answer for each request, gifts and completions
+    /// that are ready, at most as many gifts as the batch has room, and as `front` the length of the
+    /// log then, or `u64::MAX`. The trustee's log grows by the resumes that the call picks, and then by
+    /// the entries of the batch.
     fn answer<E: Since<S, S::Op, S::Reply, S::Task>>(
         &mut self,
         side: &mut Self::TrusteeSide,
