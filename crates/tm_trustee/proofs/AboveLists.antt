@@ -1,5 +1,5 @@
 -- What a write at an index leaves of a list, and the elements of a list under a function.
-use Rattle.std.proofs.Common.{◌≡◌, ◌≢◌, ℕ, zero, suc, ◌⊎◌, inl, inr, List, [], ◌∷◌, map, refl, sym, ◌∙◌, ap, arith}
+use Rattle.std.proofs.Common.{◌≡◌, ◌≢◌, ℕ, zero, suc, ◌<◌, ◌⊎◌, inl, inr, List, [], ◌∷◌, length, map, refl, sym, ◌∙◌, ap, arith}
 use Rattle.std.specs.Prelude.{slice_get, slice_set}
 use Rattle.std.specs.declared.option.Option.TheVariants.{Some}
 
@@ -27,6 +27,12 @@ module _ {X : Type 0} where
   set_other (x ∷ xs) zero (suc k) v ne = refl
   set_other (x ∷ xs) (suc i) zero v ne = refl
   set_other (x ∷ xs) (suc i) (suc k) v ne = set_other xs i k v (λ e. ne (ap (λ n. suc n) e))
+
+  -- below its length a list has an element
+  pub element_at : (xs : List X) (i : ℕ) → i < length xs → (x : X) × (slice_get xs i ≡ Some x)
+  element_at [] i lt = absurd (omega (arith, lt))
+  element_at (x ∷ xs) zero lt = (x, refl)
+  element_at (x ∷ xs) (suc i) lt = element_at xs i (omega (arith, lt))
 
   pub same_element : (xs : List X) (k : ℕ) (x y : X) → slice_get xs k ≡ Some x → slice_get xs k ≡ Some y → y ≡ x
   same_element xs k x y ex ey = let same : Some y ≡ Some x = sym ey ∙ ex in cc

@@ -7,11 +7,12 @@ use Rattle.std.proofs.lemmas.List.{length-map, map-set}
 use Rattle.std.proofs.lemmas.Option.{slice_get_within}
 use Rattle.tm_model.specs.State.{State}
 use Rattle.tm_pair.specs.Views.{ClientView}
-use Rattle.tm_trustee.specs.Above.{IsAt, moves_up, all_moves_up, Each, IsAbove}
-use Rattle.tm_trustee.specs.AboveAt.{MovesUp, MovesAt}
+use Rattle.tm_pair.specs.declared.moves.Move.{Move}
+use Rattle.tm_trustee.specs.Above.{IsAt, LooksUp, SaysBye, LooksUpAt, SaysByeAt, moves_up, all_moves_up, Each, IsAbove}
+use Rattle.tm_trustee.specs.AboveAt.{MovesUp, MovesAt, EachAt}
 use Rattle.tm_trustee.specs.Tables.{AreAmong, KeepsAbove}
 use Rattle.tm_trustee.specs.declared.stage.Stage.{Stage}
-use Rattle.tm_trustee.proofs.AboveLists.{set_cases, set_other, same_element, mapped_from, mapped}
+use Rattle.tm_trustee.proofs.AboveLists.{set_cases, set_other, element_at, same_element, mapped_from, mapped}
 
 shifted : (a b d rest : ℕ) → b ≡ 0 → a ≡ d → a + rest ≡ (b + rest) + d
 shifted a b d rest none is = omega arith
@@ -49,13 +50,15 @@ module _ {V O R T : Type 0} where
 
 module _ {V O R T Table Client Owner : Type 0} (opening_at : Table → State V O R T) (client_view : Client → ClientView V O R T)
     (HasClient : Table → Client → Type 0) (HasTrustee : Table → Owner → Type 0)
-    (Goes : ClientView V O R T → ClientView V O R T → Type 0) where
+    (Goes : Table → Table → ClientView V O R T → ClientView V O R T → Type 0) where
   -- the sides below i moved, and the others are as they were
-  pub record HasMoved (from i : ℕ) (old new : List Table) (stages stages_new : List Stage) (above above_new : List Client) (moved : ℕ) : Type 0 where
+  pub record MovesUpTo (from i : ℕ) (old new : List Table) (stages stages_new : List Stage) (above above_new : List Client) (moved : ℕ) : Type 0 where
     pub as_many : length above_new ≡ length above
-    pub below : (k : ℕ) (before after : Client) → k < i → slice_get above k ≡ Some before → slice_get above_new k ≡ Some after
-        → Goes (client_view before) (client_view after)
+    pub tables_many : length new ≡ length old
+    pub below : (k : ℕ) (was now : Table) (before after : Client) → k < i → slice_get old (from + k) ≡ Some was → slice_get new (from + k) ≡ Some now
+        → slice_get above k ≡ Some before → slice_get above_new k ≡ Some after → Goes was now (client_view before) (client_view after)
     pub rest : (k : ℕ) → i ≤ k → slice_get above_new k ≡ slice_get above k
+    pub tables_rest : (k : ℕ) → i ≤ k → slice_get new (from + k) ≡ slice_get old (from + k)
     pub counts : moved ≡ all_moves_up (map client_view above) (map client_view above_new)
     pub most : moved ≤ i
     pub is_above : (place : ℕ) → IsAbove place stages (map client_view above) → IsAbove place stages_new (map client_view above_new)
@@ -64,11 +67,13 @@ module _ {V O R T Table Client Owner : Type 0} (opening_at : Table → State V O
 
   pub none_moved :
       (from : ℕ) (tables : List Table) (stages : List Stage) (above : List Client) → AreAmong opening_at client_view HasClient HasTrustee tables from above
-      → HasMoved from 0 tables tables stages stages above above 0
+      → MovesUpTo from 0 tables tables stages stages above above 0
   none_moved from tables stages above among = record {
     as_many = refl;
-    below = λ k before after lt eb ea. absurd (omega arith);
+    tables_many = refl;
+    below = λ k was now before after lt ew en eb ea. absurd (omega arith);
     rest = λ k le. refl;
+    tables_rest = λ k le. refl;
     counts = sym (all_stay (map client_view above));
     most = omega arith;
     is_above = λ place is. is;
@@ -84,7 +89,7 @@ module _ {V O R T Table Client Owner : Type 0} (opening_at : Table → State V O
 
   module _
       (from i : ℕ) (old mid : List Table) (stages stages_mid : List Stage) (above above_mid : List Client) (moved : ℕ)
-      (done : HasMoved from i old mid stages stages_mid above above_mid moved)
+      (done : MovesUpTo from i old mid stages stages_mid above above_mid moved)
       (was becomes : Table) (before after : Client) (stage : Stage) (answer : Bool)
       (of_table : slice_get mid (from + i) ≡ Some was) (of_side : slice_get above_mid i ≡ Some before)
       (moves : MovesUp opening_at client_view HasClient HasTrustee Goes was becomes before after stage answer) where
@@ -103,13 +108,24 @@ module _ {V O R T Table Client Owner : Type 0} (opening_at : Table → State V O
     first_of_side : slice_get above i ≡ Some before
     first_of_side = sym (done.rest i (omega arith)) ∙ of_side
 
+    first_of_table : slice_get old (from + i) ≡ Some was
+    first_of_table = sym (done.tables_rest i (omega arith)) ∙ of_table
+
     below_at :
-        (k : ℕ) (b a : Client) → k < i + 1 → slice_get above k ≡ Some b → ((k ≡ i) × (a ≡ after)) ⊎ ((k ≢ i) × (slice_get above_mid k ≡ Some a))
-        → Goes (client_view b) (client_view a)
-    below_at k b a lt eb (inl h) =
+        (k : ℕ) (x y : Table) (b a : Client) → k < i + 1 → slice_get old (from + k) ≡ Some x
+        → ((from + k ≡ from + i) × (y ≡ becomes)) ⊎ ((from + k ≢ from + i) × (slice_get mid (from + k) ≡ Some y))
+        → slice_get above k ≡ Some b → ((k ≡ i) × (a ≡ after)) ⊎ ((k ≢ i) × (slice_get above_mid k ≡ Some a))
+        → Goes x y (client_view b) (client_view a)
+    below_at k x y b a lt ex (inl t) eb (inl h) =
         let same : b ≡ before = same_element above i before b first_of_side (subst (λ n. slice_get above n ≡ Some b) h.0 eb) in
-        subst (λ x. Goes (client_view x) (client_view a)) (sym same) (subst (λ x. Goes (client_view before) (client_view x)) (sym h.1) moves.goes)
-    below_at k b a lt eb (inr h) = let ne : k ≢ i = h.0 in done.below k b a (omega arith) eb h.1
+        let table : x ≡ was = same_element old (from + i) was x first_of_table (subst (λ n. slice_get old n ≡ Some x) t.0 ex) in
+        subst (λ z. Goes z y (client_view b) (client_view a)) (sym table)
+        (subst (λ z. Goes was z (client_view b) (client_view a)) (sym t.1)
+        (subst (λ z. Goes was becomes (client_view z) (client_view a)) (sym same)
+        (subst (λ z. Goes was becomes (client_view before) (client_view z)) (sym h.1) moves.goes)))
+    below_at k x y b a lt ex (inl t) eb (inr h) = let e : from + k ≡ from + i = t.0 in absurd (h.0 (omega arith))
+    below_at k x y b a lt ex (inr t) eb (inl h) = absurd (t.0 (ap (λ n. from + n) h.0))
+    below_at k x y b a lt ex (inr t) eb (inr h) = let ne : k ≢ i = h.0 in done.below k x y b a (omega arith) ex t.1 eb h.1
 
     counts_at : moved + cond answer 1 0 ≡ all_moves_up views (map client_view above_after)
     counts_at =
@@ -198,11 +214,16 @@ module _ {V O R T Table Client Owner : Type 0} (opening_at : Table → State V O
     among_at k y a (inr h) (inl m) = absurd (h.0 (ap (λ n. from + n) m.0))
     among_at k y a (inr h) (inr m) = done.among.mine k y a h.1 m.1
 
-    one_more_moved : HasMoved from (i + 1) old tables_after stages stages_after above above_after (moved + cond answer 1 0)
+    one_more_moved : MovesUpTo from (i + 1) old tables_after stages stages_after above above_after (moved + cond answer 1 0)
     one_more_moved = record {
       as_many = length-set above_mid i after ∙ done.as_many;
-      below = λ k b a lt eb ea. below_at k b a lt eb (set_cases above_mid i k after a ea);
+      tables_many = length-set mid (from + i) becomes ∙ done.tables_many;
+      below = λ k x y b a lt ex ey eb ea.
+          below_at k x y b a lt ex (set_cases mid (from + i) (from + k) becomes y ey) eb (set_cases above_mid i k after a ea);
       rest = λ k le. let ne : k ≢ i = λ e. absurd (omega arith) in set_other above_mid i k after ne ∙ done.rest k (omega arith);
+      tables_rest = λ k le.
+          let ne : from + k ≢ from + i = λ e. absurd (omega (arith, le, e)) in
+          set_other mid (from + i) (from + k) becomes ne ∙ done.tables_rest k (omega (arith, le));
       counts = counts_at;
       most = one_more answer moved i done.most;
       is_above = above_at;
@@ -217,29 +238,58 @@ module _ {V O R T Table Client Owner : Type 0} (opening_at : Table → State V O
   pub next_moved :
       (from i : ℕ) (old mid new : List Table) (stages stages_mid stages_new : List Stage) (above above_mid above_new : List Client) (moved more : ℕ)
       (answer : Bool)
-      → HasMoved from i old mid stages stages_mid above above_mid moved
+      → MovesUpTo from i old mid stages stages_mid above above_mid moved
       → MovesAt opening_at client_view HasClient HasTrustee Goes (from + i) i mid new stages_mid stages_new above_mid above_new answer
-      → more ≡ moved + cond answer 1 0 → HasMoved from (i + 1) old new stages stages_new above above_new more
+      → more ≡ moved + cond answer 1 0 → MovesUpTo from (i + 1) old new stages stages_new above above_new more
   next_moved from i old mid new stages stages_mid stages_new above above_mid above_new moved more answer done m is =
       let at = one_more_moved from i old mid stages stages_mid above above_mid moved done m.was m.becomes m.before m.after m.stage answer m.of_table m.of_side m.moves in
-      subst (λ n. HasMoved from (i + 1) old new stages stages_new above above_new n) (sym is)
-      (subst (λ l. HasMoved from (i + 1) old l stages stages_new above above_new (moved + cond answer 1 0)) (sym m.tables)
-      (subst (λ l. HasMoved from (i + 1) old (slice_set mid (from + i) m.becomes) stages l above above_new (moved + cond answer 1 0)) (sym m.stages_are)
-      (subst (λ l. HasMoved from (i + 1) old (slice_set mid (from + i) m.becomes) stages (slice_set stages_mid i m.stage) above l (moved + cond answer 1 0)) (sym m.sides) at)))
+      subst (λ n. MovesUpTo from (i + 1) old new stages stages_new above above_new n) (sym is)
+      (subst (λ l. MovesUpTo from (i + 1) old l stages stages_new above above_new (moved + cond answer 1 0)) (sym m.tables)
+      (subst (λ l. MovesUpTo from (i + 1) old (slice_set mid (from + i) m.becomes) stages l above above_new (moved + cond answer 1 0)) (sym m.stages_are)
+      (subst (λ l. MovesUpTo from (i + 1) old (slice_set mid (from + i) m.becomes) stages (slice_set stages_mid i m.stage) above l (moved + cond answer 1 0)) (sym m.sides) at)))
 
-  each_goes :
-      (olds news : List Client) → length news ≡ length olds
-      → ((k : ℕ) (before after : Client) → slice_get olds k ≡ Some before → slice_get news k ≡ Some after → Goes (client_view before) (client_view after))
-      → Each Goes (map client_view olds) (map client_view news)
-  each_goes [] [] e goes = tt
-  each_goes [] (n ∷ news) e goes = absurd (omega (arith, e))
-  each_goes (o ∷ olds) [] e goes = absurd (omega (arith, e))
-  each_goes (o ∷ olds) (n ∷ news) e goes = (goes 0 o n refl refl, each_goes olds news (omega (arith, e)) (λ k. goes (suc k)))
-
-  -- each moved once all have
+  -- each side moved once all have
   pub all_moved :
       (from i : ℕ) (old new : List Table) (stages stages_new : List Stage) (above above_new : List Client) (moved : ℕ)
-      → HasMoved from i old new stages stages_new above above_new moved → i ≡ length above → Each Goes (map client_view above) (map client_view above_new)
-  all_moved from i old new stages stages_new above above_new moved done all =
-      each_goes above above_new done.as_many
-      (λ k before after eb ea. done.below k before after (subst (λ n. k < n) (sym all) (slice_get_within above k before eb)) eb ea)
+      → MovesUpTo from i old new stages stages_new above above_new moved → i ≡ length above → EachAt client_view Goes from old new above above_new
+  all_moved from i old new stages stages_new above above_new moved done all = λ k was now before after ew en eb ea.
+      done.below k was now before after (subst (λ n. k < n) (sym all) (slice_get_within above k before eb)) ew en eb ea
+
+  module _ (Sees : ClientView V O R T → ClientView V O R T → Type 0)
+      (sees : (was now : Table) (before after : ClientView V O R T) → Goes was now before after → Sees before after) where
+    each_sees :
+        (olds news : List Client) → length news ≡ length olds
+        → ((k : ℕ) (before after : Client) → slice_get olds k ≡ Some before → slice_get news k ≡ Some after
+        → Sees (client_view before) (client_view after))
+        → Each Sees (map client_view olds) (map client_view news)
+    each_sees [] [] e goes = tt
+    each_sees [] (n ∷ news) e goes = absurd (omega (arith, e))
+    each_sees (o ∷ olds) [] e goes = absurd (omega (arith, e))
+    each_sees (o ∷ olds) (n ∷ news) e goes = (goes 0 o n refl refl, each_sees olds news (omega (arith, e)) (λ k. goes (suc k)))
+
+    -- so what holds of the views of a side that moved holds of those of each
+    pub all_seen :
+        (from i : ℕ) (old new : List Table) (stages stages_new : List Stage) (above above_new : List Client) (moved : ℕ)
+        → MovesUpTo from i old new stages stages_new above above_new moved → i ≡ length above
+        → Each Sees (map client_view above) (map client_view above_new)
+    all_seen from i old new stages stages_new above above_new moved done all =
+        each_sees above above_new done.as_many
+        (λ k before after eb ea.
+        let within : k < length above = slice_get_within above k before eb in
+        let sides : length above_new ≡ length above = done.as_many in
+        let among : from + length above_new ≡ length new = done.among.as_many in
+        let many : length new ≡ length old = done.tables_many in
+        let (was, ew) = element_at old (from + k) (omega (arith, within, sides, among, many)) in
+        let (now, en) = element_at new (from + k) (omega (arith, within, sides, among)) in
+        sees was now (client_view before) (client_view after)
+        (all_moved from i old new stages stages_new above above_new moved done all k was now before after ew en eb ea))
+
+module _ {V O R T Table : Type 0} (HasMoved : Move V O R T → Table → Table → Type 0) where
+  -- what is said of the tables too says what is said of the views
+  pub looks_seen : (was now : Table) (old new : ClientView V O R T) → LooksUpAt HasMoved was now old new → LooksUp old new
+  looks_seen was now old new looks = let (found, collects, moved) = looks in (found, collects)
+
+  pub says_seen :
+      (all : Type 0) (was now : Table) (old new : ClientView V O R T) → SaysByeAt HasMoved all was now old new → SaysBye all old new
+  says_seen all was now old new (inl said) = let (holds, none, publishes, moved) = said in inl (holds, none, publishes)
+  says_seen all was now old new (inr kept) = inr (kept.0, kept.2)

@@ -5,5 +5,6 @@ pub mod BegunServing
 pub mod Serving
 pub mod TurningAbove
 pub mod TurningLooks
+pub mod TurningMoved
 pub mod TurningTables
 pub mod TurningTold

@@ -18,6 +18,9 @@ use Rattle.tm_estate.specs.Asking.{MayRunBatch}
 use Rattle.tm_pair.specs.Views.{Hand, TrusteeView, hand_of, looks_at, no_looks}
 use Rattle.tm_pair.specs.Calls.{LooksAt, Takes, MayAnswer, HasAnswered}
 use Rattle.tm_pair.specs.Sides.{IsGoodTrustee}
+use Rattle.tm_pair.specs.Moves.{answer_of}
+use Rattle.tm_pair.specs.declared.moves.Move.{Move}
+use Rattle.tm_pair.specs.declared.moves.Move.TheVariants.{See}
 use Rattle.tm_trustee.specs.Places.{ServesPlace, ServesBelow, found_below}
 
 -- the clients' sides of a table stay its
@@ -97,17 +100,6 @@ module _ {V O R T : Type 0} where
         ap (λ (hands : List (Option (Hand V O R T))). slice_index_or hands c None) takes.hands
         ∙ get_or-set_same old.hands c (Some (record { requests = b; room = room })) None (subst (λ n. c < n) (sym good.hands) lt)
 
-    -- a batch that was taken and answered was served
-    pub serves_taken :
-        (now : State V O R T) (c : ℕ) (b : List (Request V O R T)) (room : ℕ) (old mid new : TrusteeView V O R T)
-        → now ≡ opening → Takes kind opening c b room old mid
-        → ((a : AnswerBatch V O R T) × MayAnswer kind now c [] a mid × HasAnswered c [] a mid new)
-        → ServesPlace kind opening c old new
-    serves_taken now c b room old mid new is takes answered =
-        let (a, may, has) = answered in
-        let may_here : MayAnswer kind opening c [] a mid = subst (λ s. MayAnswer kind s c [] a mid) is may in
-        inr (b, room, a, mid, takes, may_here, has)
-
     -- the last look found a batch that was taken
     pub found_taken :
         (c : ℕ) (old mid new : TrusteeView V O R T) → IsGoodTrustee kind opening old → c < place_count opening.setup
@@ -125,23 +117,6 @@ module _ {V O R T : Type 0} where
         let told : looks_at new c ≡ looked false (looks_at old c) = look_told c false old new (subst (λ n. c < n) (sym good.looks) lt) looks in
         sym (ap (λ (l : Looks). l.found) told)
 
-    -- a place that was served is free, if all were
-    pub served_frees :
-        (c : ℕ) (old new : TrusteeView V O R T) → ServesPlace kind opening c old new → ((d : ℕ) → hand_of old d ≡ None)
-        → (d : ℕ) → hand_of new d ≡ None
-    served_frees c old new (inl nothing) free d = ap (λ (hands : List (Option (Hand V O R T))). slice_index_or hands d None) nothing.hands ∙ free d
-    served_frees c old new (inr served) free d =
-        let (b, room, a, mid, takes, may, has) = served in
-        ap (λ (hands : List (Option (Hand V O R T))). slice_index_or hands d None) (has.hands ∙ ap (λ (hands : List (Option (Hand V O R T))). slice_set hands c None) takes.hands)
-        ∙ freed c (Some (record { requests = b; room = room })) old.hands free d
-
-    -- serving a place looks at it once
-    pub served_looks :
-        (c : ℕ) (old new : TrusteeView V O R T) → ServesPlace kind opening c old new → (found : Bool) × LooksAt c found old new
-    served_looks c old new (inl nothing) = (false, nothing.looks)
-    served_looks c old new (inr served) =
-        let (b, room, a, mid, takes, may, has) = served in (true, has.looks ∙ takes.looks)
-
     -- what was found at lower places stays known
     same_found :
         (n : ℕ) (old new : TrusteeView V O R T) → ((c : ℕ) → c < n → looks_at new c ≡ looks_at old c) → found_below n new ≡ found_below n old
@@ -152,30 +127,61 @@ module _ {V O R T : Type 0} where
         let here : looks_at new n ≡ looks_at old n = same n (omega arith) in
         ap (λ k. k + cond (looks_at new n).found 1 0) below ∙ ap (λ (l : Looks). found_below n old + cond l.found 1 0) here
 
-    pub found_one_more :
-        (n : ℕ) (old new : TrusteeView V O R T) → ServesPlace kind opening n old new
-        → found_below (n + 1) new ≡ found_below n old + cond (looks_at new n).found 1 0
-    unfolding found_below
-    found_one_more n old new serves =
-        let (found, looks) = served_looks n old new serves in
-        let below : found_below n new ≡ found_below n old =
-        same_found n old new (λ c lt. look_other n c found old new (λ e. absurd (omega (arith, lt, e))) looks) in
-        let e : suc n ≡ n + 1 = omega arith in
-        subst (λ k. found_below k new ≡ found_below n old + cond (looks_at new n).found 1 0) e
-        (ap (λ k. k + cond (looks_at new n).found 1 0) below)
-
-    pub serves_one_more :
-        (n : ℕ) (old mid new : TrusteeView V O R T) → ServesBelow kind opening n old mid → ServesPlace kind opening n mid new
-        → ServesBelow kind opening (n + 1) old new
-    unfolding ServesBelow
-    serves_one_more n old mid new below here =
-        let all : ServesBelow kind opening (suc n) old new = (mid, below, here) in
-        let e : suc n ≡ n + 1 = omega arith in subst (λ k. ServesBelow kind opening k old new) e all
-
-    pub serves_none : (old : TrusteeView V O R T) → ServesBelow kind opening 0 old old
-    unfolding ServesBelow
-    serves_none old = refl
-
     pub found_none : (view : TrusteeView V O R T) → found_below 0 view ≡ 0
     unfolding found_below
     found_none view = refl
+
+module _ {V O R T Table : Type 0} (HasMoved : Move V O R T → Table → Table → Type 0) (kind : Kind V O R T) (opening : State V O R T) where
+  -- a batch that was taken and answered was served
+  pub serves_taken :
+      (now : State V O R T) (c : ℕ) (b : List (Request V O R T)) (room : ℕ) (first between last : Table) (old mid new : TrusteeView V O R T)
+      → now ≡ opening → Takes kind opening c b room old mid → HasMoved (See c) first between
+      → ((a : AnswerBatch V O R T) × MayAnswer kind now c [] a mid × HasAnswered c [] a mid new × HasMoved (answer_of c [] a) between last)
+      → ServesPlace HasMoved kind opening c first last old new
+  serves_taken now c b room first between last old mid new is takes seen answered =
+      let (a, may, has, moved) = answered in
+      let may_here : MayAnswer kind opening c [] a mid = subst (λ s. MayAnswer kind s c [] a mid) is may in
+      inr (b, room, a, mid, between, takes, seen, may_here, has, moved)
+
+  -- a place that was served is free, if all were
+  pub served_frees :
+      (c : ℕ) (was now : Table) (old new : TrusteeView V O R T) → ServesPlace HasMoved kind opening c was now old new
+      → ((d : ℕ) → hand_of old d ≡ None) → (d : ℕ) → hand_of new d ≡ None
+  served_frees c was now old new (inl nothing) free d =
+      ap (λ (hands : List (Option (Hand V O R T))). slice_index_or hands d None) nothing.0.hands ∙ free d
+  served_frees c was now old new (inr served) free d =
+      let (b, room, a, mid, between, takes, seen, may, has, moved) = served in
+      ap (λ (hands : List (Option (Hand V O R T))). slice_index_or hands d None) (has.hands ∙ ap (λ (hands : List (Option (Hand V O R T))). slice_set hands c None) takes.hands)
+      ∙ freed c (Some (record { requests = b; room = room })) old.hands free d
+
+  -- serving a place looks at it once
+  pub served_looks :
+      (c : ℕ) (was now : Table) (old new : TrusteeView V O R T) → ServesPlace HasMoved kind opening c was now old new
+      → (found : Bool) × LooksAt c found old new
+  served_looks c was now old new (inl nothing) = (false, nothing.0.looks)
+  served_looks c was now old new (inr served) =
+      let (b, room, a, mid, between, takes, seen, may, has, moved) = served in (true, has.looks ∙ takes.looks)
+
+  pub found_one_more :
+      (n : ℕ) (was now : Table) (old new : TrusteeView V O R T) → ServesPlace HasMoved kind opening n was now old new
+      → found_below (n + 1) new ≡ found_below n old + cond (looks_at new n).found 1 0
+  unfolding found_below
+  found_one_more n was now old new serves =
+      let (found, looks) = served_looks n was now old new serves in
+      let below : found_below n new ≡ found_below n old =
+      same_found kind opening n old new (λ c lt. look_other n c found old new (λ e. absurd (omega (arith, lt, e))) looks) in
+      let e : suc n ≡ n + 1 = omega arith in
+      subst (λ k. found_below k new ≡ found_below n old + cond (looks_at new n).found 1 0) e
+      (ap (λ k. k + cond (looks_at new n).found 1 0) below)
+
+  pub serves_one_more :
+      (n : ℕ) (was between now : Table) (old mid new : TrusteeView V O R T) → ServesBelow HasMoved kind opening n was between old mid
+      → ServesPlace HasMoved kind opening n between now mid new → ServesBelow HasMoved kind opening (n + 1) was now old new
+  unfolding ServesBelow
+  serves_one_more n was between now old mid new below here =
+      let all : ServesBelow HasMoved kind opening (suc n) was now old new = (between, mid, below, here) in
+      let e : suc n ≡ n + 1 = omega arith in subst (λ k. ServesBelow HasMoved kind opening k was now old new) e all
+
+  pub serves_none : (was : Table) (old : TrusteeView V O R T) → ServesBelow HasMoved kind opening 0 was was old old
+  unfolding ServesBelow
+  serves_none was old = (refl, refl)

@@ -1,5 +1,5 @@
 -- What a turn leaves of a trustee's sides above, from what its two parts leave.
-use Rattle.std.proofs.Common.{◌≡◌, ℕ, ◌+◌, ◌<◌, ◌≤◌, ◌↔◌, zero, suc, List, [], ◌∷◌, length, slice_index_or, inl, inr, refl, sym, ◌∙◌, ap, subst, arith, length-append}
+use Rattle.std.proofs.Common.{◌≡◌, ℕ, ◌+◌, ◌<◌, ◌≤◌, ◌↔◌, List, [], ◌∷◌, length, slice_index_or, inl, inr, refl, sym, ◌∙◌, ap, subst, arith, length-append}
 use Rattle.std.specs.Prelude.{All, slice_get}
 use Rattle.std.specs.declared.option.Option.TheVariants.{None, Some}
 use Rattle.std.proofs.lemmas.Option.{slice_get-get_or, get_or_from_slice_get}
@@ -15,11 +15,7 @@ use Rattle.tm_trustee.specs.declared.stage.Stage.{Stage}
 use Rattle.tm_trustee.specs.declared.stage.Stage.TheVariants.{Before, Out, Over}
 use Rattle.tm_trustee.specs.declared.served.Served.{Served}
 use Rattle.tm_trustee.specs.declared.served.Served.TheVariants.{Moved, Quiet, Ended}
-
-element_at : {X : Type 0} (xs : List X) (i : ℕ) → i < length xs → (x : X) × (slice_get xs i ≡ Some x)
-element_at [] i lt = absurd (omega (arith, lt))
-element_at (x ∷ xs) zero lt = (x, refl)
-element_at (x ∷ xs) (suc i) lt = element_at xs i (omega (arith, lt))
+use Rattle.tm_trustee.proofs.AboveLists.{element_at}
 
 module _ {V O R T : Type 0} where
   -- what a side sent and got only grows

@@ -6,6 +6,7 @@ use Rattle.tm_model.specs.State.{State, place_count}
 use Rattle.tm_estate.specs.Asking.{HaveAllEnded}
 use Rattle.tm_pair.specs.Views.{ClientView, TrusteeView}
 use Rattle.tm_pair.specs.Sides.{IsGoodTrustee}
+use Rattle.tm_pair.specs.declared.moves.Move.{Move}
 use Rattle.tm_trustee.specs.Places.{ServesBelow, found_below}
 use Rattle.tm_trustee.specs.Above.{LooksUp, SaysBye, Each, all_moves_up, IsAbove}
 use Rattle.tm_trustee.specs.Turn.{HasEnded, HasTurned, Tells}
@@ -15,16 +16,16 @@ use Rattle.tm_trustee.specs.declared.served.Served.{Served}
 use Rattle.tm_trustee.proofs.TurningAbove.{goes_up, all_moves_join, all_say_as, over_exactly, tells_as}
 use Rattle.tm_trustee.proofs.TurningLooks.{looked_below, below_grows}
 
-module _ {V O R T : Type 0} (kind : Kind V O R T) (opening : State V O R T) where
+module _ {V O R T Table : Type 0} (HasMoved : Move V O R T → Table → Table → Type 0) (kind : Kind V O R T) (opening : State V O R T) where
   pub turned :
-      (old new : TrusteeView V O R T) (olds mids news : List (ClientView V O R T)) (place : ℕ) (at : List Stage) (all over both : Bool)
+      (was now : Table) (old new : TrusteeView V O R T) (olds mids news : List (ClientView V O R T)) (place : ℕ) (at : List Stage) (all over both : Bool)
       (collected found said : ℕ) (served : Served) → IsGoodTrustee kind opening old
-      → ServesBelow kind opening (place_count opening.setup) old new → Each LooksUp olds mids → Each (SaysBye (IsTrue all)) mids news
+      → ServesBelow HasMoved kind opening (place_count opening.setup) was now old new → Each LooksUp olds mids → Each (SaysBye (IsTrue all)) mids news
       → IsAbove place at news → IsTrue all ↔ HaveAllEnded opening new.log → IsTrue over ↔ All (λ stage. stage ≡ Over) at
       → IsTrue both ↔ IsTrue all × IsTrue over → collected ≡ all_moves_up olds mids → found ≡ found_below (place_count opening.setup) new
       → said ≡ all_moves_up mids news → Tells served (IsTrue both) (collected + found + said)
-      → HasTurned kind opening old new olds news served
-  turned old new olds mids news place at all over both collected found said served good serves looks says above ended last two collects finds byes tells =
+      → HasTurned HasMoved kind opening was now old new olds news served
+  turned was now old new olds mids news place at all over both collected found said served good serves looks says above ended last two collects finds byes tells =
       let n : ℕ = place_count opening.setup in
       let many : place_count opening.setup ≤ length old.looks = omega (arith, good.looks) in
       let says_ended : Each (SaysBye (HaveAllEnded opening new.log)) mids news =
@@ -39,8 +40,8 @@ module _ {V O R T : Type 0} (kind : Kind V O R T) (opening : State V O R T) wher
       let from : HasEnded opening new news → IsTrue both = λ has. two.1 (ended.1 has.below, last.1 (exactly.1 has.above)) in
       record {
         serves = serves;
-        looks = λ c lt. looked_below kind opening (place_count opening.setup) c old new serves many lt;
-        log = below_grows kind opening (place_count opening.setup) old new serves;
+        looks = λ c lt. looked_below HasMoved kind opening (place_count opening.setup) c was now old new serves many lt;
+        log = below_grows HasMoved kind opening (place_count opening.setup) was now old new serves;
         above = goes_up (HaveAllEnded opening new.log) olds mids news looks says_ended;
         tells =
             subst (λ m. Tells served (HasEnded opening new news) m) sum

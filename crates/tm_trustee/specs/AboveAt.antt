@@ -1,17 +1,24 @@
--- One move at a trustee's side of one table above.
-use Rattle.std.specs.Prelude.{◌≡◌, ◌≢◌, ℕ, Bool, List, slice_get, slice_set}
+-- The moves at a trustee's sides of the tables above.
+use Rattle.std.specs.Prelude.{◌≡◌, ◌≢◌, ℕ, ◌+◌, Bool, List, slice_get, slice_set}
 use Rattle.std.specs.declared.option.Option.TheVariants.{Some}
 use Rattle.tm_model.specs.State.{State}
 use Rattle.tm_pair.specs.Views.{ClientView}
 use Rattle.tm_trustee.specs.Above.{IsAt, moves_up, Counts}
 use Rattle.tm_trustee.specs.declared.stage.Stage.{Stage}
 
+module _ {V O R T Table Client : Type 0} (client_view : Client → ClientView V O R T) where
+  -- each side of a list went on in this way, the one at i together with the table at from + i
+  abbrev pub EachAt : (Table → Table → ClientView V O R T → ClientView V O R T → Type 0) → ℕ → List Table → List Table → List Client → List Client → Type 0
+  EachAt Goes from old new above above_new =
+      (i : ℕ) (was now : Table) (before after : Client) → slice_get old (from + i) ≡ Some was → slice_get new (from + i) ≡ Some now
+      → slice_get above i ≡ Some before → slice_get above_new i ≡ Some after → Goes was now (client_view before) (client_view after)
+
 module _ {V O R T Table Client Owner : Type 0} (opening_at : Table → State V O R T) (client_view : Client → ClientView V O R T)
     (HasClient : Table → Client → Type 0) (HasTrustee : Table → Owner → Type 0)
-    (Goes : ClientView V O R T → ClientView V O R T → Type 0) where
+    (Goes : Table → Table → ClientView V O R T → ClientView V O R T → Type 0) where
   -- a side of a table went on, and is at a stage; the table keeps what is not of its place
   pub record MovesUp (was becomes : Table) (before after : Client) (stage : Stage) (answer : Bool) : Type 0 where
-    pub goes : Goes (client_view before) (client_view after)
+    pub goes : Goes was becomes (client_view before) (client_view after)
     pub at : IsAt stage (client_view after)
     pub place : (client_view after).place ≡ (client_view before).place
     pub moved : Counts answer (moves_up (client_view before) (client_view after))

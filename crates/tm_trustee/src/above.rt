@@ -2,8 +2,8 @@
 ghost use Rattle.std.specs.Prelude.{◌≡◌, ◌≢◌, ℕ, ◌+◌, ◌<◌, ◌≤◌, ◌↔◌, [], ◌∷◌, length, map, IsOk, OnOk};
 ghost use Rattle.tm_batch.specs.declared.message.Request.TheVariants.{Bye};
 ghost use Rattle.tm_pair.specs.Calls.{Publishes};
-ghost use Rattle.tm_trustee.specs.Above.{IsAt, LooksUp, SaysBye, moves_up, Counts, Each, all_moves_up, IsAbove};
-ghost use Rattle.tm_trustee.specs.AboveAt.{MovesAt};
+ghost use Rattle.tm_trustee.specs.Above.{IsAt, LooksUp, SaysBye, LooksUpAt, PublishesBye, SaysByeAt, moves_up, Counts, Each, all_moves_up, IsAbove};
+ghost use Rattle.tm_trustee.specs.AboveAt.{MovesAt, EachAt};
 ghost use Rattle.tm_trustee.specs.Tables.{AreAmong, KeepsAbove};
 
 use crate::stage::Stage;
@@ -19,6 +19,7 @@ pub(crate) fn look_up<S: SmallBatch, P: PairTable<S>>(
     requires mine { P.HasClient table.old seat.old }
     requires at { IsAt stage.old (P.client_view seat.old) }
     ensures looks { LooksUp (P.client_view seat.old) (P.client_view seat.new) }
+    ensures looks_at { LooksUpAt P.Moved table.old table.new (P.client_view seat.old) (P.client_view seat.new) }
     ensures at { IsAt stage.new (P.client_view seat.new) }
     ensures place { (P.client_view seat.new).place ≡ (P.client_view seat.old).place }
     ensures moved { Counts result (moves_up (P.client_view seat.old) (P.client_view seat.new)) }
@@ -46,6 +47,7 @@ fn send_bye<S: SmallBatch, P: PairTable<S>>(
     requires got { (P.client_view seat.old).got ≡ [] }
     ensures free { IsOk result ↔ ((P.client_view seat.old).out ≡ None) }
     ensures ok { OnOk result (Publishes (Bye ∷ []) 0 (P.client_view seat.old) (P.client_view seat.new)) }
+    ensures moved { OnOk result (PublishesBye P.Moved (P.client_view seat.old).place table.old table.new) }
     ensures opening { P.opening table.new ≡ P.opening table.old }
     ensures mine { P.HasClient table.new seat.new }
     ensures clients { (other : P.ClientSide) → (P.client_view other).place ≢ (P.client_view seat.old).place → P.HasClient table.old other → P.HasClient table.new other }
@@ -65,6 +67,7 @@ pub(crate) fn say_bye<S: SmallBatch, P: PairTable<S>>(
     requires mine { P.HasClient table.old seat.old }
     requires at { IsAt stage.old (P.client_view seat.old) }
     ensures says { SaysBye (Unit {0}) (P.client_view seat.old) (P.client_view seat.new) }
+    ensures says_at { SaysByeAt P.Moved (Unit {0}) table.old table.new (P.client_view seat.old) (P.client_view seat.new) }
     ensures at { IsAt stage.new (P.client_view seat.new) }
     ensures place { (P.client_view seat.new).place ≡ (P.client_view seat.old).place }
     ensures moved { Counts result (moves_up (P.client_view seat.old) (P.client_view seat.new)) }
@@ -92,7 +95,7 @@ fn look_at<S: SmallBatch, P: PairTable<S>>(
     requires index { i < length above.old.items }
     requires above { (place : ℕ) × IsAbove place stages.old.items (map P.client_view above.old.items) }
     requires among { AreAmong P.opening P.client_view P.HasClient P.HasTrustee tables.old from above.old.items }
-    ensures { MovesAt P.opening P.client_view P.HasClient P.HasTrustee LooksUp (from + i) i tables.old tables.new stages.old.items stages.new.items above.old.items above.new.items result }
+    ensures { MovesAt P.opening P.client_view P.HasClient P.HasTrustee (LooksUpAt P.Moved) (from + i) i tables.old tables.new stages.old.items stages.new.items above.old.items above.new.items result }
 {
     look_up(
         &mut tables[from as usize + i],
@@ -111,6 +114,7 @@ pub(crate) fn looks_above<S: SmallBatch, P: PairTable<S>>(
     requires above { (place : ℕ) × IsAbove place stages.old.items (map P.client_view above.old.items) }
     requires among { AreAmong P.opening P.client_view P.HasClient P.HasTrustee tables.old from above.old.items }
     ensures looks { Each LooksUp (map P.client_view above.old.items) (map P.client_view above.new.items) }
+    ensures looks_at { EachAt P.client_view (LooksUpAt P.Moved) from tables.old tables.new above.old.items above.new.items }
     ensures above { (place : ℕ) → IsAbove place stages.old.items (map P.client_view above.old.items) → IsAbove place stages.new.items (map P.client_view above.new.items) }
     ensures among { AreAmong P.opening P.client_view P.HasClient P.HasTrustee tables.new from above.new.items }
     ensures moved { result ≡ all_moves_up (map P.client_view above.old.items) (map P.client_view above.new.items) }
@@ -136,7 +140,7 @@ fn bye_at<S: SmallBatch, P: PairTable<S>>(
     requires index { i < length above.old.items }
     requires above { (place : ℕ) × IsAbove place stages.old.items (map P.client_view above.old.items) }
     requires among { AreAmong P.opening P.client_view P.HasClient P.HasTrustee tables.old from above.old.items }
-    ensures { MovesAt P.opening P.client_view P.HasClient P.HasTrustee (SaysBye (Unit {0})) (from + i) i tables.old tables.new stages.old.items stages.new.items above.old.items above.new.items result }
+    ensures { MovesAt P.opening P.client_view P.HasClient P.HasTrustee (SaysByeAt P.Moved (Unit {0})) (from + i) i tables.old tables.new stages.old.items stages.new.items above.old.items above.new.items result }
 {
     say_bye(
         &mut tables[from as usize + i],
@@ -155,6 +159,7 @@ pub(crate) fn byes_above<S: SmallBatch, P: PairTable<S>>(
     requires above { (place : ℕ) × IsAbove place stages.old.items (map P.client_view above.old.items) }
     requires among { AreAmong P.opening P.client_view P.HasClient P.HasTrustee tables.old from above.old.items }
     ensures says { Each (SaysBye (Unit {0})) (map P.client_view above.old.items) (map P.client_view above.new.items) }
+    ensures says_at { EachAt P.client_view (SaysByeAt P.Moved (Unit {0})) from tables.old tables.new above.old.items above.new.items }
     ensures above { (place : ℕ) → IsAbove place stages.old.items (map P.client_view above.old.items) → IsAbove place stages.new.items (map P.client_view above.new.items) }
     ensures among { AreAmong P.opening P.client_view P.HasClient P.HasTrustee tables.new from above.new.items }
     ensures moved { result ≡ all_moves_up (map P.client_view above.old.items) (map P.client_view above.new.items) }

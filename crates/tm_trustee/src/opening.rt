@@ -31,7 +31,8 @@ impl<S: SmallBatch, P: PairTable<S>> Trustee<S, P> {
     /// Trustee `number` of a runtime built from a config and a list of objects. `first` are those of them that
     /// are placed on it, in order; `side` is its side of its own table, `above` are its sides at the trustees
     /// `number + 1` and on, and `nested` are the objects that it holds at them, by their trustees' numbers, in the
-    /// order of the build. All room is reserved. An error is want of memory.
+    /// order of the build. Each side must still be as its table's `new` gave it. All room is reserved, that of
+    /// [`Estate::new`]. An error is want of memory, and hands all back.
     pub fn new(
         alloc: Global,
         number: u32,

@@ -6,6 +6,7 @@ ghost use Rattle.tm_model.specs.State.{State, place_count};
 ghost use Rattle.tm_estate.specs.Standing.{Stands};
 ghost use Rattle.tm_pair.specs.Views.{hand_of, looks_at};
 ghost use Rattle.tm_pair.specs.Calls.{MayAnswer, HasAnswered};
+ghost use Rattle.tm_pair.specs.Moves.{answer_of};
 ghost use Rattle.tm_trustee.specs.Places.{ServesPlace, ServesBelow, found_below};
 
 use std::marker::Brand;
@@ -27,7 +28,7 @@ fn answer_batch<S: SmallBatch, P: PairTable<S>, G: Gate>(
     requires stands { Stands S.kind (P.opening table.old) (P.trustee_view side.old).log estate.old }
     requires place { place < place_count (P.opening table.old).setup }
     requires hand { hand_of (P.trustee_view side.old) place ≡ Some (record { requests = batch.requests.items; room = batch.room }) }
-    ensures answers { (a : AnswerBatch S S.Op S.Reply S.Task) × MayAnswer S.kind (P.opening table.old) place [] a (P.trustee_view side.old) × HasAnswered place [] a (P.trustee_view side.old) (P.trustee_view side.new) }
+    ensures answers { (a : AnswerBatch S S.Op S.Reply S.Task) × MayAnswer S.kind (P.opening table.old) place [] a (P.trustee_view side.old) × HasAnswered place [] a (P.trustee_view side.old) (P.trustee_view side.new) × P.Moved (answer_of place [] a) table.old table.new }
     ensures stands { Stands S.kind (P.opening table.old) (P.trustee_view side.new).log estate.new }
     ensures opening { P.opening table.new ≡ P.opening table.old }
     ensures mine { P.HasTrustee table.new side.new }
@@ -49,7 +50,7 @@ pub(crate) fn serve_place<S: SmallBatch, P: PairTable<S>, G: Gate>(
     requires stands { Stands S.kind (P.opening table.old) (P.trustee_view side.old).log estate.old }
     requires place { place < place_count (P.opening table.old).setup }
     requires free { hand_of (P.trustee_view side.old) place ≡ None }
-    ensures serves { ServesPlace S.kind (P.opening table.old) place (P.trustee_view side.old) (P.trustee_view side.new) }
+    ensures serves { ServesPlace P.Moved S.kind (P.opening table.old) place table.old table.new (P.trustee_view side.old) (P.trustee_view side.new) }
     ensures found { result ≡ (looks_at (P.trustee_view side.new) place).found }
     ensures stands { Stands S.kind (P.opening table.old) (P.trustee_view side.new).log estate.new }
     ensures opening { P.opening table.new ≡ P.opening table.old }
@@ -85,7 +86,7 @@ pub(crate) fn serve_places<S: SmallBatch, P: PairTable<S>, G: Gate>(
     requires stands { Stands S.kind (P.opening table.old) (P.trustee_view side.old).log estate.old }
     requires places { places ≤ place_count (P.opening table.old).setup }
     requires free { (c : ℕ) → hand_of (P.trustee_view side.old) c ≡ None }
-    ensures serves { ServesBelow S.kind (P.opening table.old) places (P.trustee_view side.old) (P.trustee_view side.new) }
+    ensures serves { ServesBelow P.Moved S.kind (P.opening table.old) places table.old table.new (P.trustee_view side.old) (P.trustee_view side.new) }
     ensures free { (c : ℕ) → hand_of (P.trustee_view side.new) c ≡ None }
     ensures found { result ≡ found_below places (P.trustee_view side.new) }
     ensures stands { Stands S.kind (P.opening table.old) (P.trustee_view side.new).log estate.new }

@@ -7,7 +7,7 @@ pub enum Served {
     Moved(u64),
     /// It has not ended, every look found nothing, and nothing was published.
     Quiet,
-    /// Every place has said `Bye`, and every greater trustee's answer to this one's was collected, whatever
-    /// this turn moved.
+    /// Every place has said `Bye`, and every greater trustee's answer to the `Bye` of this one was collected,
+    /// whatever this turn moved.
     Ended,
 }

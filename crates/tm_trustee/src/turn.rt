@@ -1,8 +1,10 @@
 //! A turn of a trustee.
 ghost use Rattle.std.specs.Prelude.{◌≡◌, ◌≢◌, ℕ, ◌+◌, ◌≤◌, ◌↔◌, IsTrue, All, length, map, slice_get};
 ghost use Rattle.tm_model.specs.State.{State, place_count};
+ghost use Rattle.tm_estate.specs.Asking.{HaveAllEnded};
 ghost use Rattle.tm_trustee.specs.Places.{ServesBelow, found_below};
-ghost use Rattle.tm_trustee.specs.Above.{LooksUp, SaysBye, Each, all_moves_up};
+ghost use Rattle.tm_trustee.specs.Above.{LooksUp, SaysBye, LooksUpAt, SaysByeAt, GoesUpAt, Each, all_moves_up};
+ghost use Rattle.tm_trustee.specs.AboveAt.{EachAt};
 ghost use Rattle.tm_trustee.specs.Tables.{IsReady, KeepsAbove, KeepsTables};
 ghost use Rattle.tm_trustee.specs.Turn.{HasTurned, Tells};
 ghost use Rattle.std.specs.declared.option.Option.TheVariants.{Some};
@@ -49,6 +51,7 @@ impl<S: SmallBatch, P: PairTable<S>> Trustee<S, P> {
         requires ready { (opening : State S S.Op S.Reply S.Task) × IsReady P.opening P.client_view P.HasClient P.HasTrustee S.kind P.trustee_view opening tables.old self.old }
         ensures ready { (opening : State S S.Op S.Reply S.Task) → IsReady P.opening P.client_view P.HasClient P.HasTrustee S.kind P.trustee_view opening tables.old self.old → IsReady P.opening P.client_view P.HasClient P.HasTrustee S.kind P.trustee_view opening tables.new self.new }
         ensures looks { Each LooksUp (map P.client_view self.old.above.items) (map P.client_view self.new.above.items) }
+        ensures looks_at { EachAt P.client_view (LooksUpAt P.Moved) (self.old.number + 1) tables.old tables.new self.old.above.items self.new.above.items }
         ensures moved { result ≡ all_moves_up (map P.client_view self.old.above.items) (map P.client_view self.new.above.items) }
         ensures most { result ≤ length self.old.above.items }
         ensures tables { KeepsAbove P.opening P.client_view P.HasClient P.HasTrustee tables.old tables.new (self.old.number + 1) (self.old.clients + self.old.number) }
@@ -64,7 +67,7 @@ impl<S: SmallBatch, P: PairTable<S>> Trustee<S, P> {
     fn serve_table<G: Gate>(&mut self, tables: &mut [P], gate: &G) -> u64
         requires ready { (opening : State S S.Op S.Reply S.Task) × IsReady P.opening P.client_view P.HasClient P.HasTrustee S.kind P.trustee_view opening tables.old self.old }
         ensures ready { (opening : State S S.Op S.Reply S.Task) → IsReady P.opening P.client_view P.HasClient P.HasTrustee S.kind P.trustee_view opening tables.old self.old → IsReady P.opening P.client_view P.HasClient P.HasTrustee S.kind P.trustee_view opening tables.new self.new }
-        ensures serves { (opening : State S S.Op S.Reply S.Task) → IsReady P.opening P.client_view P.HasClient P.HasTrustee S.kind P.trustee_view opening tables.old self.old → ServesBelow S.kind opening (place_count opening.setup) (P.trustee_view self.old.side) (P.trustee_view self.new.side) }
+        ensures serves { (opening : State S S.Op S.Reply S.Task) (was now : P) → slice_get tables.old self.old.number ≡ Some was → slice_get tables.new self.old.number ≡ Some now → IsReady P.opening P.client_view P.HasClient P.HasTrustee S.kind P.trustee_view opening tables.old self.old → ServesBelow P.Moved S.kind opening (place_count opening.setup) was now (P.trustee_view self.old.side) (P.trustee_view self.new.side) }
         ensures found { (opening : State S S.Op S.Reply S.Task) → IsReady P.opening P.client_view P.HasClient P.HasTrustee S.kind P.trustee_view opening tables.old self.old → result ≡ found_below (place_count opening.setup) (P.trustee_view self.new.side) }
         ensures most { result ≤ self.old.clients + self.old.number }
         ensures as_many { length tables.new ≡ length tables.old }
@@ -86,6 +89,7 @@ impl<S: SmallBatch, P: PairTable<S>> Trustee<S, P> {
         requires ready { (opening : State S S.Op S.Reply S.Task) × IsReady P.opening P.client_view P.HasClient P.HasTrustee S.kind P.trustee_view opening tables.old self.old }
         ensures ready { (opening : State S S.Op S.Reply S.Task) → IsReady P.opening P.client_view P.HasClient P.HasTrustee S.kind P.trustee_view opening tables.old self.old → IsReady P.opening P.client_view P.HasClient P.HasTrustee S.kind P.trustee_view opening tables.new self.new }
         ensures says { Each (SaysBye (IsTrue all)) (map P.client_view self.old.above.items) (map P.client_view self.new.above.items) }
+        ensures says_at { EachAt P.client_view (SaysByeAt P.Moved (IsTrue all)) (self.old.number + 1) tables.old tables.new self.old.above.items self.new.above.items }
         ensures moved { result ≡ all_moves_up (map P.client_view self.old.above.items) (map P.client_view self.new.above.items) }
         ensures most { result ≤ length self.old.above.items }
         ensures tables { KeepsAbove P.opening P.client_view P.HasClient P.HasTrustee tables.old tables.new (self.old.number + 1) (self.old.clients + self.old.number) }
@@ -106,12 +110,13 @@ impl<S: SmallBatch, P: PairTable<S>> Trustee<S, P> {
     /// looks once at each place of its own table, in order, runs each batch that it finds, each request once it
     /// has passed the gate, and answers it. Where every place below has said `Bye`, it says `Bye` above.
     ///
-    /// `tables[t]` is trustee `t`'s table. It never waits and never allocates, and costs in the places, the greater
-    /// trustees and the requests.
+    /// `tables[t]` is trustee `t`'s table. Beside what the operations and the gate do it never waits and never
+    /// allocates. Its time is a look for each place and each greater trustee, and the requests that it runs.
     pub fn serve_turn<G: Gate>(&mut self, tables: &mut [P], gate: &G) -> Served
         requires ready { (opening : State S S.Op S.Reply S.Task) × IsReady P.opening P.client_view P.HasClient P.HasTrustee S.kind P.trustee_view opening tables.old self.old }
         ensures ready { (opening : State S S.Op S.Reply S.Task) → IsReady P.opening P.client_view P.HasClient P.HasTrustee S.kind P.trustee_view opening tables.old self.old → IsReady P.opening P.client_view P.HasClient P.HasTrustee S.kind P.trustee_view opening tables.new self.new }
-        ensures turned { (opening : State S S.Op S.Reply S.Task) → IsReady P.opening P.client_view P.HasClient P.HasTrustee S.kind P.trustee_view opening tables.old self.old → HasTurned S.kind opening (P.trustee_view self.old.side) (P.trustee_view self.new.side) (map P.client_view self.old.above.items) (map P.client_view self.new.above.items) result }
+        ensures turned { (opening : State S S.Op S.Reply S.Task) (was now : P) → slice_get tables.old self.old.number ≡ Some was → slice_get tables.new self.old.number ≡ Some now → IsReady P.opening P.client_view P.HasClient P.HasTrustee S.kind P.trustee_view opening tables.old self.old → HasTurned P.Moved S.kind opening was now (P.trustee_view self.old.side) (P.trustee_view self.new.side) (map P.client_view self.old.above.items) (map P.client_view self.new.above.items) result }
+        ensures tables_above { (opening : State S S.Op S.Reply S.Task) → IsReady P.opening P.client_view P.HasClient P.HasTrustee S.kind P.trustee_view opening tables.old self.old → EachAt P.client_view (GoesUpAt P.Moved (HaveAllEnded opening (P.trustee_view self.new.side).log)) (self.old.number + 1) tables.old tables.new self.old.above.items self.new.above.items }
         ensures tables { KeepsTables P.opening P.client_view P.HasClient P.HasTrustee tables.old tables.new self.old.number (self.old.clients + self.old.number) }
         ensures number { self.new.number ≡ self.old.number }
         ensures clients { self.new.clients ≡ self.old.clients }

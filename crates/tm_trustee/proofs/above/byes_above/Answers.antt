@@ -1,5 +1,5 @@
 use Rattle.std.proofs.Common.{rules, ◌≡◌, ◌+◌, ap, length, arith}
-use Rattle.tm_trustee.specs.Above.{SaysBye}
+use Rattle.tm_trustee.specs.Above.{SaysBye, SaysByeAt}
 use Rattle.tm_trustee.proofs.AboveSteps as steps
 use Rattle.tm_trustee.proofs.above.byes_above.Goals as goal
 
@@ -7,8 +7,8 @@ pub loop-i-init : goal.loop-i-init
 loop-i-init g c = record {
   seats = search rules;
   moves =
-      steps.none_moved g.P.PairTable.opening g.P.PairTable.client_view g.P.PairTable.HasClient g.P.PairTable.HasTrustee (SaysBye (Unit {0})) c.args.from
-      c.args.tables.now c.args.stages.now.items c.args.above.now.items c.requires.among;
+      steps.none_moved g.P.PairTable.opening g.P.PairTable.client_view g.P.PairTable.HasClient g.P.PairTable.HasTrustee (SaysByeAt g.P.PairTable.Moved (Unit {0}))
+      c.args.from c.args.tables.now c.args.stages.now.items c.args.above.now.items c.requires.among;
 }
 
 pub bye_at-requires-clause-above : goal.bye_at-requires-clause-above
@@ -19,8 +19,8 @@ pub loop-i-preserved : goal.loop-i-preserved
 loop-i-preserved g c = record {
   seats = c.loop-i.invariant.seats;
   moves =
-      steps.next_moved g.P.PairTable.opening g.P.PairTable.client_view g.P.PairTable.HasClient g.P.PairTable.HasTrustee (SaysBye (Unit {0})) c.args.from
-      c.loop-i.i c.args.tables.now c.loop-i.tables c.bye_at.new.tables c.args.stages.now.items c.loop-i.stages.items c.bye_at.new.stages.items
+      steps.next_moved g.P.PairTable.opening g.P.PairTable.client_view g.P.PairTable.HasClient g.P.PairTable.HasTrustee (SaysByeAt g.P.PairTable.Moved (Unit {0}))
+      c.args.from c.loop-i.i c.args.tables.now c.loop-i.tables c.bye_at.new.tables c.args.stages.now.items c.loop-i.stages.items c.bye_at.new.stages.items
       c.args.above.now.items c.loop-i.above.items c.bye_at.new.above.items c.loop-i.moved (c.loop-i.moved + c.from-moved.result) c.bye_at.result
       c.loop-i.invariant.moves c.bye_at.ensures (ap (λ n. c.loop-i.moved + n) (steps.as_count c.bye_at.result c.from-moved.result c.from-moved.ensures));
 }
@@ -28,6 +28,13 @@ loop-i-preserved g c = record {
 pub returns-clause-says : goal.returns-clause-says
 returns-clause-says g c =
     let all : c.loop-i.i ≡ length c.args.above.now.items = omega (arith, c.loop-i.invariant.seats) in
-    steps.all_moved g.P.PairTable.opening g.P.PairTable.client_view g.P.PairTable.HasClient g.P.PairTable.HasTrustee (SaysBye (Unit {0})) c.args.from
-    c.loop-i.i c.args.tables.now c.loop-i.tables c.args.stages.now.items c.loop-i.stages.items c.args.above.now.items c.loop-i.above.items
+    steps.all_seen g.P.PairTable.opening g.P.PairTable.client_view g.P.PairTable.HasClient g.P.PairTable.HasTrustee (SaysByeAt g.P.PairTable.Moved (Unit {0}))
+    (SaysBye (Unit {0})) (steps.says_seen g.P.PairTable.Moved (Unit {0})) c.args.from c.loop-i.i c.args.tables.now c.loop-i.tables c.args.stages.now.items c.loop-i.stages.items c.args.above.now.items c.loop-i.above.items
+    c.loop-i.moved c.loop-i.invariant.moves all
+
+pub returns-clause-says_at : goal.returns-clause-says_at
+returns-clause-says_at g c =
+    let all : c.loop-i.i ≡ length c.args.above.now.items = omega (arith, c.loop-i.invariant.seats) in
+    steps.all_moved g.P.PairTable.opening g.P.PairTable.client_view g.P.PairTable.HasClient g.P.PairTable.HasTrustee (SaysByeAt g.P.PairTable.Moved (Unit {0}))
+    c.args.from c.loop-i.i c.args.tables.now c.loop-i.tables c.args.stages.now.items c.loop-i.stages.items c.args.above.now.items c.loop-i.above.items
     c.loop-i.moved c.loop-i.invariant.moves all

@@ -1,12 +1,12 @@
 use Rattle.std.proofs.Common.{◌≡◌, length}
-use Rattle.tm_trustee.specs.Above.{SaysBye}
-use Rattle.tm_trustee.proofs.AboveSteps.{HasMoved}
+use Rattle.tm_trustee.specs.Above.{SaysByeAt}
+use Rattle.tm_trustee.proofs.AboveSteps.{MovesUpTo}
 use Rattle.tm_trustee.proofs.above.byes_above.Given as goal
 
 abbrev pub invariant-loop-i : goal.invariant-loop-i
 invariant-loop-i g l = record {
   seats : l.seats ≡ length l.initial.above.items;
   moves :
-      HasMoved g.P.PairTable.opening g.P.PairTable.client_view g.P.PairTable.HasClient g.P.PairTable.HasTrustee (SaysBye (Unit {0})) l.from l.i l.initial.tables l.tables
-      l.initial.stages.items l.stages.items l.initial.above.items l.above.items l.moved;
+      MovesUpTo g.P.PairTable.opening g.P.PairTable.client_view g.P.PairTable.HasClient g.P.PairTable.HasTrustee (SaysByeAt g.P.PairTable.Moved (Unit {0}))
+      l.from l.i l.initial.tables l.tables l.initial.stages.items l.stages.items l.initial.above.items l.above.items l.moved;
 }

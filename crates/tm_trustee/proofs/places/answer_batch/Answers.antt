@@ -46,6 +46,7 @@ returns-clause-answers g c =
       may_answer g.S.Entrusted.kind opening view c.args.place c.args.batch.requests.items c.args.batch.room c.answer-answers.result c.requires.hand
           (c.answer-answers.ensures opening view.log may).0,
       c.answer.ensures.answers,
+      c.answer.ensures.moved,
     )
 
 pub returns-clause-stands : goal.returns-clause-stands

@@ -36,8 +36,9 @@ returns-in-Some-clause-serves g c =
     let old = g.P.PairTable.trustee_view c.args.side.now in
     let mid = g.P.PairTable.trustee_view c.see.new.side in
     let new = g.P.PairTable.trustee_view c.answer_batch.new.side in
-    serving.serves_taken kind (g.P.PairTable.opening c.args.table.now) (g.P.PairTable.opening c.see.new.self) c.args.place
-    c.in-Some.batch.requests.items c.in-Some.batch.room old mid new c.in-Some.ensures.opening c.in-Some.ensures.sees c.answer_batch.ensures.answers
+    serving.serves_taken g.P.PairTable.Moved kind (g.P.PairTable.opening c.args.table.now) (g.P.PairTable.opening c.see.new.self) c.args.place
+    c.in-Some.batch.requests.items c.in-Some.batch.room c.args.table.now c.see.new.self c.answer_batch.new.table old mid new c.in-Some.ensures.opening
+    c.in-Some.ensures.sees c.in-Some.ensures.moved c.answer_batch.ensures.answers
 
 pub returns-in-Some-clause-found : goal.returns-in-Some-clause-found
 returns-in-Some-clause-found g c =
@@ -64,7 +65,7 @@ pub returns-in-Some-clause-clients : goal.returns-in-Some-clause-clients
 returns-in-Some-clause-clients g c = λ other mine. c.answer_batch.ensures.clients other (c.in-Some.ensures.clients other mine)
 
 pub returns-in-None-clause-serves : goal.returns-in-None-clause-serves
-returns-in-None-clause-serves g c = inl c.in-None.ensures.sees
+returns-in-None-clause-serves g c = inl (c.in-None.ensures.sees, c.in-None.ensures.moved)
 
 pub returns-in-None-clause-found : goal.returns-in-None-clause-found
 returns-in-None-clause-found g c =

@@ -11,7 +11,7 @@ loop-place-init g c =
       mine = c.requires.mine;
       stands = c.requires.stands;
       free = c.requires.free;
-      serves = serving.serves_none g.S.Entrusted.kind (g.P.PairTable.opening c.args.table.now) view;
+      serves = serving.serves_none g.P.PairTable.Moved g.S.Entrusted.kind (g.P.PairTable.opening c.args.table.now) c.args.table.now view;
       found = sym (serving.found_none g.S.Entrusted.kind (g.P.PairTable.opening c.args.table.now) view);
       most = omega arith;
       opening = refl;
@@ -40,15 +40,19 @@ loop-place-preserved g c =
     let first = g.P.PairTable.trustee_view c.args.side.now in
     let mid = g.P.PairTable.trustee_view c.loop-place.side in
     let new = g.P.PairTable.trustee_view c.serve_place-more.new.side in
-    let serves : ServesPlace kind opening n mid new = subst (λ s. ServesPlace kind s n mid new) inv.opening call.serves in
+    let Moved = g.P.PairTable.Moved in
+    let was = c.args.table.now in
+    let between = c.loop-place.table in
+    let now = c.serve_place-more.new.table in
+    let serves : ServesPlace Moved kind opening n between now mid new = subst (λ s. ServesPlace Moved kind s n between now mid new) inv.opening call.serves in
     let one : cond c.serve_place-more.result 1 0 ≤ 1 = serving.at_most_one c.serve_place-more.result in record {
       mine = call.mine;
       stands = subst (λ s. Stands kind s new.log c.serve_place-more.new.estate) inv.opening call.stands;
-      free = serving.served_frees kind opening n mid new serves inv.free;
-      serves = serving.serves_one_more kind opening n first mid new inv.serves serves;
+      free = serving.served_frees Moved kind opening n between now mid new serves inv.free;
+      serves = serving.serves_one_more Moved kind opening n was between now first mid new inv.serves serves;
       found =
           c.count-found.ensures ∙ ap (λ k. k + cond c.serve_place-more.result 1 0) inv.found ∙ ap (λ b. found_below n mid + cond b 1 0) call.found
-          ∙ sym (serving.found_one_more kind opening n mid new serves);
+          ∙ sym (serving.found_one_more Moved kind opening n between now mid new serves);
       most = omega (arith, c.count-found.ensures, one, inv.most);
       opening = call.opening ∙ inv.opening;
       clients = λ other mine. call.clients other (inv.clients other mine);
@@ -59,7 +63,8 @@ returns-clause-serves g c =
     let first = g.P.PairTable.trustee_view c.args.side.now in
     let new = g.P.PairTable.trustee_view c.loop-place.side in
     let e : c.loop-place.place ≡ c.args.places = omega (arith, c.loop-place-test.false, c.loop-place.auto.place-end) in
-    subst (λ n. ServesBelow g.S.Entrusted.kind (g.P.PairTable.opening c.args.table.now) n first new) e c.loop-place.invariant.serves
+    subst (λ n. ServesBelow g.P.PairTable.Moved g.S.Entrusted.kind (g.P.PairTable.opening c.args.table.now) n c.args.table.now c.loop-place.table first new) e
+    c.loop-place.invariant.serves
 
 pub returns-clause-found : goal.returns-clause-found
 returns-clause-found g c =

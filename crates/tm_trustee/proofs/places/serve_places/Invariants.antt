@@ -12,8 +12,8 @@ invariant-loop-place g l = record {
   stands : Stands g.S.Entrusted.kind (g.P.PairTable.opening l.initial.table) (g.P.PairTable.trustee_view l.side).log l.estate;
   free : (c : ℕ) → hand_of (g.P.PairTable.trustee_view l.side) c ≡ None;
   serves :
-      ServesBelow g.S.Entrusted.kind (g.P.PairTable.opening l.initial.table) l.place (g.P.PairTable.trustee_view l.initial.side)
-      (g.P.PairTable.trustee_view l.side);
+      ServesBelow g.P.PairTable.Moved g.S.Entrusted.kind (g.P.PairTable.opening l.initial.table) l.place l.initial.table l.table
+      (g.P.PairTable.trustee_view l.initial.side) (g.P.PairTable.trustee_view l.side);
   found : l.found ≡ found_below l.place (g.P.PairTable.trustee_view l.side);
   most : l.found ≤ l.place;
   opening : g.P.PairTable.opening l.table ≡ g.P.PairTable.opening l.initial.table;

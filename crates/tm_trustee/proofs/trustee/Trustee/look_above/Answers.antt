@@ -35,3 +35,6 @@ returns-clause-moved g c = c.looks_above.ensures.moved
 
 pub returns-clause-most : goal.returns-clause-most
 returns-clause-most g c = c.looks_above.ensures.most
+
+pub returns-clause-looks_at : goal.returns-clause-looks_at
+returns-clause-looks_at g c = c.looks_above.ensures.looks_at

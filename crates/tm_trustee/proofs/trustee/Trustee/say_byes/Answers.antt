@@ -1,6 +1,7 @@
 use Rattle.std.proofs.Common.{◌≡◌, ◌+◌, ◌≤◌, true, false, refl, sym, ◌∙◌, arith, IsTrue, map}
 use Rattle.tm_trustee.proofs.TurningTables as tables
 use Rattle.tm_trustee.proofs.TurningAbove as above
+use Rattle.tm_trustee.proofs.TurningMoved as moved
 use Rattle.tm_trustee.proofs.trustee.Trustee.say_byes.Goals as goal
 
 pub overflow_add-from : goal.overflow_add-from
@@ -54,3 +55,14 @@ returns-else-all-clause-tables g c =
     let table = g.P.PairTable in
     tables.keeps_same table.opening table.client_view table.HasClient table.HasTrustee c.args.tables.now (c.args.self.now.number + 1)
     (c.args.self.now.clients + c.args.self.now.number)
+
+pub returns-then-all-clause-says_at : goal.returns-then-all-clause-says_at
+returns-then-all-clause-says_at g c =
+    let t = c.args.self.now in
+    moved.all_say_at g.P.PairTable.Moved g.P.PairTable.client_view (Unit {0}) (IsTrue c.args.all) (λ _. c.if-all.true) (λ _. tt) (t.number + 1)
+    c.args.tables.now c.byes_above.new.tables t.above.items c.byes_above.new.above.items c.byes_above.ensures.says_at
+
+pub returns-else-all-clause-says_at : goal.returns-else-all-clause-says_at
+returns-else-all-clause-says_at g c =
+    moved.none_say_at g.P.PairTable.Moved g.P.PairTable.client_view (IsTrue c.args.all)
+    (λ holds. let e : false ≡ true = sym c.if-all.false ∙ holds in absurd cc) (c.args.self.now.number + 1) c.args.tables.now c.args.self.now.above.items

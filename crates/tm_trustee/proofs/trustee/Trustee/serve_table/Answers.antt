@@ -1,4 +1,5 @@
-use Rattle.std.proofs.Common.{◌≡◌, ◌+◌, ◌≤◌, refl, sym, subst, arith, slice_index_or}
+use Rattle.std.proofs.Common.{◌≡◌, ◌+◌, ◌≤◌, refl, sym, subst, arith, slice_index_or, slice_set}
+use Rattle.std.proofs.lemmas.Option.{slice_get_within}
 use Rattle.tm_model.specs.State.{place_count}
 use Rattle.tm_estate.specs.Standing.{Stands}
 use Rattle.tm_trustee.specs.Places.{ServesBelow, found_below}
@@ -68,16 +69,25 @@ returns-clause-ready g c = λ opening ready.
     c.serve_places.ensures.stands c.serve_places.ensures.free
 
 pub returns-clause-serves : goal.returns-clause-serves
-returns-clause-serves g c = λ opening ready.
+returns-clause-serves g c = λ opening was now there still ready.
     let table = g.P.PairTable in
     let t = c.args.self.now in
     let own = slice_index_or c.args.tables.now c.args.self.now.number c.index-tables-number.result in
     let is = subst (λ x. x ≡ slice_index_or c.args.tables.now c.args.self.now.number x) c.index-tables-number.is c.index-tables-number.is in
     let (here, opens, mine) = tables.own_table table.opening table.client_view table.HasClient table.HasTrustee g.S.Entrusted.kind table.trustee_view opening c.args.tables.now t own ready is in
     let many : t.clients + t.number ≡ place_count opening.setup = tables.as_many_places table.opening table.client_view table.HasClient table.HasTrustee g.S.Entrusted.kind table.trustee_view opening c.args.tables.now t ready in
-    subst (λ n. ServesBelow g.S.Entrusted.kind opening n (table.trustee_view t.side) (table.trustee_view c.serve_places.new.side)) many
-    (subst (λ s. ServesBelow g.S.Entrusted.kind s (t.clients + t.number) (table.trustee_view t.side) (table.trustee_view c.serve_places.new.side)) opens
-    c.serve_places.ensures.serves)
+    let kind = g.S.Entrusted.kind in
+    let first = table.trustee_view t.side in
+    let last = table.trustee_view c.serve_places.new.side in
+    let becomes = c.serve_places.new.table in
+    let one : was ≡ own = tables.same_element c.args.tables.now t.number own was here there in
+    let within = slice_get_within c.args.tables.now t.number own here in
+    let two : now ≡ becomes =
+    tables.same_element (slice_set c.args.tables.now t.number becomes) t.number becomes now (tables.set_here c.args.tables.now t.number becomes within) still in
+    subst (λ x. ServesBelow table.Moved kind opening (place_count opening.setup) x now first last) (sym one)
+    (subst (λ x. ServesBelow table.Moved kind opening (place_count opening.setup) own x first last) (sym two)
+    (subst (λ n. ServesBelow table.Moved kind opening n own becomes first last) many
+    (subst (λ s. ServesBelow table.Moved kind s (t.clients + t.number) own becomes first last) opens c.serve_places.ensures.serves)))
 
 pub returns-clause-found : goal.returns-clause-found
 returns-clause-found g c = λ opening ready.

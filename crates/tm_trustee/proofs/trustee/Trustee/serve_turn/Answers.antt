@@ -1,13 +1,16 @@
 use Rattle.std.proofs.Common.{◌≡◌, ◌+◌, ◌≤◌, ◌↔◌, IsTrue, sym, subst, arith, ◌∙◌, ap, length, map}
-use Rattle.std.specs.Prelude.{All}
+use Rattle.std.specs.Prelude.{All, slice_get}
+use Rattle.std.specs.declared.option.Option.TheVariants.{Some}
 use Rattle.tm_model.specs.State.{place_count}
 use Rattle.tm_estate.specs.Asking.{HaveAllEnded}
 use Rattle.tm_trustee.specs.Places.{ServesBelow, found_below}
 use Rattle.tm_trustee.specs.Tables.{KeepsAbove}
-use Rattle.tm_trustee.specs.Above.{LooksUp, Each, all_moves_up}
+use Rattle.tm_trustee.specs.Above.{LooksUp, SaysByeAt, Each, all_moves_up}
+use Rattle.tm_trustee.specs.AboveAt.{EachAt}
 use Rattle.tm_trustee.specs.declared.stage.Stage.TheVariants.{Over}
 use Rattle.tm_trustee.proofs.TurningTables as tables
 use Rattle.tm_trustee.proofs.TurningTold as told
+use Rattle.tm_trustee.proofs.TurningMoved as moved
 use Rattle.tm_trustee.proofs.trustee.Trustee.serve_turn.Goals as goal
 
 pub look_above-collected-requires : goal.look_above-collected-requires
@@ -95,7 +98,7 @@ overflow_add-moved g c =
     omega (arith, number, clients, seats, seats_then, collected, found, said, same_number, same_clients)
 
 pub returns-clause-turned : goal.returns-clause-turned
-returns-clause-turned g c = λ opening ready.
+returns-clause-turned g c = λ opening was now there still ready.
     let table = g.P.PairTable in
     let kind = g.S.Entrusted.kind in
     let cv = table.client_view in
@@ -111,11 +114,19 @@ returns-clause-turned g c = λ opening ready.
     let same_above = c.serve_table-found.ensures.above in
     let mids : map cv looked.above.items ≡ map cv served.above.items = ap (λ above. map cv above.items) (sym same_above) in
     let sides = c.say_byes-said.ensures.side in
+    let number = c.look_above-collected.ensures.number in
+    let number_then = c.serve_table-found.ensures.number ∙ number in
+    let before : slice_get c.look_above-collected.new.tables t.number ≡ Some was =
+    c.look_above-collected.ensures.tables.lower t.number (omega arith) ∙ there in
+    let after : slice_get c.serve_table-found.new.tables t.number ≡ Some now =
+    sym (c.say_byes-said.ensures.tables.lower t.number (omega (arith, number_then))) ∙ still in
     let serves =
-    subst (λ side. ServesBelow kind opening (place_count opening.setup) (table.trustee_view t.side) (table.trustee_view side)) (sym sides)
-    (subst (λ side. ServesBelow kind opening (place_count opening.setup) (table.trustee_view side) (table.trustee_view served.side))
-    c.look_above-collected.ensures.side (c.serve_table-found.ensures.serves opening ready_looked)) in
-    told.turned kind opening (table.trustee_view t.side) (table.trustee_view said.side) (map cv t.above.items) (map cv served.above.items)
+    subst (λ side. ServesBelow table.Moved kind opening (place_count opening.setup) was now (table.trustee_view t.side) (table.trustee_view side)) (sym sides)
+    (subst (λ side. ServesBelow table.Moved kind opening (place_count opening.setup) was now (table.trustee_view side) (table.trustee_view served.side))
+    c.look_above-collected.ensures.side
+    (c.serve_table-found.ensures.serves opening was now (subst (λ n. slice_get c.look_above-collected.new.tables n ≡ Some was) (sym number) before)
+    (subst (λ n. slice_get c.serve_table-found.new.tables n ≡ Some now) (sym number) after) ready_looked)) in
+    told.turned table.Moved kind opening was now (table.trustee_view t.side) (table.trustee_view said.side) (map cv t.above.items) (map cv served.above.items)
     (map cv said.above.items) (said.clients + said.number) said.stages.items c.is_closed-all.result c.are_over-over.result c.is_both.result
     c.look_above-collected.result c.serve_table-found.result c.say_byes-said.result c.outcome.result good serves
     (subst (λ l. Each LooksUp (map cv t.above.items) l) mids c.look_above-collected.ensures.looks) c.say_byes-said.ensures.says
@@ -126,3 +137,36 @@ returns-clause-turned g c = λ opening ready.
     (c.look_above-collected.ensures.moved ∙ ap (λ l. all_moves_up (map cv t.above.items) l) mids)
     (subst (λ side. c.serve_table-found.result ≡ found_below (place_count opening.setup) (table.trustee_view side)) (sym sides)
     (c.serve_table-found.ensures.found opening ready_looked)) c.say_byes-said.ensures.moved c.outcome.ensures
+
+pub returns-clause-tables_above : goal.returns-clause-tables_above
+returns-clause-tables_above g c = λ opening ready.
+    let table = g.P.PairTable in
+    let cv = table.client_view in
+    let t = c.args.self.now in
+    let looked = c.look_above-collected.new.self in
+    let served = c.serve_table-found.new.self in
+    let said = c.say_byes-said.new.self in
+    let tables_looked = c.look_above-collected.new.tables in
+    let tables_served = c.serve_table-found.new.tables in
+    let tables_said = c.say_byes-said.new.tables in
+    let ready_looked = c.look_above-collected.ensures.ready opening ready in
+    let ready_served = c.serve_table-found.ensures.ready opening ready_looked in
+    let all = IsTrue c.is_closed-all.result in
+    let all_ended = HaveAllEnded opening (table.trustee_view said.side).log in
+    let exactly =
+    subst (λ side. all ↔ HaveAllEnded opening (table.trustee_view side).log) (sym c.say_byes-said.ensures.side)
+    (c.is_closed-all.ensures opening (table.trustee_view served.side).log ready_served.serving.stands) in
+    let number : looked.number ≡ t.number = c.look_above-collected.ensures.number in
+    let number_then : served.number ≡ t.number = c.serve_table-found.ensures.number ∙ number in
+    let items : served.above.items ≡ looked.above.items = ap (λ above. above.items) c.serve_table-found.ensures.above in
+    let many : length tables_looked ≡ length c.args.tables.now = c.look_above-collected.ensures.tables.as_many in
+    let seats : t.number + 1 + length t.above.items ≡ length c.args.tables.now = ready.above.as_many in
+    let seats_then : looked.number + 1 + length looked.above.items ≡ length tables_looked = ready_looked.above.as_many in
+    let sides : length looked.above.items ≡ length t.above.items = omega (arith, seats, seats_then, many, number) in
+    let says : EachAt cv (SaysByeAt table.Moved all) (t.number + 1) tables_served tables_said looked.above.items said.above.items =
+    subst (λ l. EachAt cv (SaysByeAt table.Moved all) (t.number + 1) tables_served tables_said l said.above.items) items
+    (subst (λ n. EachAt cv (SaysByeAt table.Moved all) (n + 1) tables_served tables_said served.above.items said.above.items) number_then
+    c.say_byes-said.ensures.says_at) in
+    moved.goes_up_at table.Moved cv all_ended t.number c.args.tables.now tables_looked tables_served tables_said t.above.items looked.above.items
+    said.above.items many sides (λ k ne. c.serve_table-found.ensures.others k (λ e. ne (e ∙ number))) c.look_above-collected.ensures.looks_at
+    (moved.all_say_at table.Moved cv all all_ended exactly.0 exactly.1 (t.number + 1) tables_served tables_said looked.above.items said.above.items says)
