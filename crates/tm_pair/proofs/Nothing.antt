@@ -1,5 +1,5 @@
 -- A batch that asks nothing: a good side may send it, and a good trustee's log may grow by it.
-use Rattle.std.proofs.Common.{◌≡◌, ℕ, ◌+◌, ◌-◌, ◌^◌, ◌<◌, ◌≤◌, min, cond, List, [], ◌∷◌, ◌++◌, length, take, refl, sym, ◌∙◌, ap, subst, eq-eqb, append-nil, slice_index_or, get_or-set_same}
+use Rattle.std.proofs.Common.{◌≡◌, ◌≢◌, ℕ, ◌+◌, ◌-◌, ◌^◌, ◌<◌, ◌≤◌, min, cond, List, [], ◌∷◌, ◌++◌, length, take, refl, sym, ◌∙◌, ap, subst, eq-eqb, append-nil, slice_index_or, get_or-set_same}
 use Rattle.std.specs.Prelude.{IsSomeAnd, MatchOption}
 use Rattle.std.specs.declared.option.Option.{Option}
 use Rattle.std.specs.declared.option.Option.TheVariants.{None, Some}
@@ -23,7 +23,7 @@ use Rattle.tm_pair.specs.Views.{ClientView, TrusteeView, hand_of}
 use Rattle.tm_pair.specs.Calls.{SeesNothing, Takes, HasAnswered}
 use Rattle.tm_pair.specs.Sides.{IsGoodClient, IsGoodTrustee}
 use Rattle.tm_pair.specs.Rounds.{NothingWaits, AnswersNothing, AnswersFound}
-use Rattle.tm_pair.proofs.Handing.{hand_in_range, hand_answered, batch_taken}
+use Rattle.tm_pair.proofs.Handing.{hand_in_range, hand_answered, other_answered, batch_taken, other_seen}
 
 nil_is_not_joined : {X : Type 0} (before after : List X) (x : X) → [] ≡ before ++ x ∷ after → ⊥
 nil_is_not_joined [] after x e = cc
@@ -80,16 +80,13 @@ module _ {V O R T : Type 0} (kind : Kind V O R T) (opening : State V O R T) wher
 
   pub nothing_answered :
       (c room : ℕ) (a : AnswerBatch V O R T) (old new : TrusteeView V O R T) → IsGoodTrustee kind opening old → c < place_count opening.setup
-      → hand_of old c ≡ Some (record { requests = []; room = room }) → HasAnswered c [] a old new → AnswersNothing c old new
+      → hand_of old c ≡ Some (record { requests = []; room = room }) → HasAnswered c [] a old new → AnswersNothing c room old new
   nothing_answered c room a old new good lt is has =
-      let most = (good.in_hand c _ is).most_gifts in
       let there = hand_in_range kind opening c old good lt in record {
-        log = (
-          room,
-          most,
-          subst (λ o. IsSomeAnd o (λ hand. new.log ≡ old.log ++ added old.log [] c hand.requests hand.room a.answers.items)) is has.log,
-        );
+        most = (good.in_hand c _ is).most_gifts;
+        log = subst (λ o. IsSomeAnd o (λ hand. new.log ≡ old.log ++ added old.log [] c hand.requests hand.room a.answers.items)) is has.log;
         hand = hand_answered c [] a old new there has;
+        others = λ d ne. other_answered c d [] a old new ne has;
       }
 
   pub nothing_taken :
@@ -108,18 +105,37 @@ module _ {V O R T : Type 0} (kind : Kind V O R T) (opening : State V O R T) wher
   seeing_keeps_log c None old new sees = sees.log
   seeing_keeps_log c (Some b) old new takes = takes.log
 
-  pub nothing_answered_behind :
-      (c : ℕ) (old mid new : TrusteeView V O R T) → mid.log ≡ old.log → AnswersNothing c mid new → AnswersNothing c old new
-  nothing_answered_behind c old mid new same has =
-      let (room, most, log) = has.log in record { log = (room, most, log ∙ ap (λ l. l ++ Sent c room ∷ []) same); hand = has.hand }
+  answered_behind :
+      (c room : ℕ) (old mid new : TrusteeView V O R T) → mid.log ≡ old.log → ((d : ℕ) → d ≢ c → hand_of mid d ≡ hand_of old d)
+      → AnswersNothing c room mid new → AnswersNothing c room old new
+  answered_behind c room old mid new same stay has = record {
+    most = has.most;
+    log = has.log ∙ ap (λ l. l ++ Sent c room ∷ []) same;
+    hand = has.hand;
+    others = λ d ne. has.others d ne ∙ stay d ne;
+  }
 
   -- what was found was answered
   pub found_answered :
-      (c : ℕ) (seen : Option (Batch V O R T)) (old mid new : TrusteeView V O R T)
+      (c : ℕ) (seen : Option (Batch V O R T)) (old mid new : TrusteeView V O R T) → c < length old.hands
       → MatchOption seen (SeesNothing c old mid) (λ b. Takes kind opening c b.requests.items b.room old mid)
-      → IsSomeAnd seen (λ b. b.requests.items ≡ []) → new.looks ≡ mid.looks → AnswersNothing c old new → AnswersFound c seen old new
-  found_answered c None old mid new sees some looks has = absurd some
-  found_answered c (Some b) old mid new takes none looks has = (looks ∙ takes.looks, λ _. has, λ ne. absurd (ne none))
+      → IsSomeAnd seen (λ b. b.requests.items ≡ []) → new.looks ≡ mid.looks
+      → ((room : ℕ) → hand_of mid c ≡ Some (record { requests = []; room = room }) → AnswersNothing c room mid new) → AnswersFound c seen old new
+  found_answered c None old mid new lt sees some looks answered = absurd some
+  found_answered c (Some b) old mid new lt takes none looks answered =
+      let is : hand_of mid c ≡ Some (record { requests = []; room = b.room }) =
+      ap (λ hands. slice_index_or hands c None) takes.hands
+      ∙ get_or-set_same old.hands c (Some (record { requests = b.requests.items; room = b.room })) None lt
+      ∙ ap (λ r. Some (record { requests = r; room = b.room })) none in
+      let has = answered_behind c b.room old mid new takes.log (λ d ne. other_seen kind opening c d (Some b) old mid ne takes) (answered b.room is) in
+      (looks ∙ takes.looks, λ _. has, λ ne. absurd (ne none))
+
+  -- an empty batch that was found was answered
+  pub empty_answered :
+      (c : ℕ) (seen : Option (Batch V O R T)) (old new : TrusteeView V O R T) → AnswersFound c seen old new
+      → IsSomeAnd seen (λ b. b.requests.items ≡ []) → (room : ℕ) × AnswersNothing c room old new
+  empty_answered c None old new found some = absurd some
+  empty_answered c (Some b) old new found none = (b.room, found.1 none)
 
   -- nothing was found, or what was found asks something
   pub found_kept :
@@ -134,5 +150,6 @@ module _ {V O R T : Type 0} (kind : Kind V O R T) (opening : State V O R T) wher
       takes.log,
       ap (λ hands. slice_index_or hands c None) takes.hands
           ∙ get_or-set_same old.hands c (Some (record { requests = b.requests.items; room = b.room })) None lt,
+      λ d other. other_seen kind opening c d (Some b) old new other takes,
     ),
   )

@@ -21,18 +21,21 @@ module _ {V O R T : Type 0} where
     pub gifts : (place_of s c).gifts ≡ []
     pub ready : (place_of s c).ready ≡ []
 
-  -- a batch of place c that asked nothing was answered
-  pub record AnswersNothing (c : ℕ) (old new : TrusteeView V O R T) : Type 0 where
-    pub log : (room : ℕ) × (room ≤ 16) × (new.log ≡ old.log ++ Sent c room ∷ [])
+  -- a batch of place c that asked nothing and had so much room was answered; the others in hand stay
+  pub record AnswersNothing (c room : ℕ) (old new : TrusteeView V O R T) : Type 0 where
+    pub most : room ≤ 16
+    pub log : new.log ≡ old.log ++ Sent c room ∷ []
     pub hand : hand_of new c ≡ None
+    pub others : (d : ℕ) → d ≢ c → hand_of new d ≡ hand_of old d
 
   -- the trustee looked once at place c: it answered a batch that it found and that asked nothing, and one that asked something is in hand
   abbrev pub AnswersFound : ℕ → Option (Batch V O R T) → TrusteeView V O R T → TrusteeView V O R T → Type 0
   AnswersFound c None old new = SeesNothing c old new
   AnswersFound c (Some b) old new =
       LooksAt c true old new
-      × (b.requests.items ≡ [] → AnswersNothing c old new)
-      × (b.requests.items ≢ [] → (new.log ≡ old.log) × (hand_of new c ≡ Some (record { requests = b.requests.items; room = b.room })))
+      × (b.requests.items ≡ [] → AnswersNothing c b.room old new)
+      × (b.requests.items ≢ [] → (new.log ≡ old.log) × (hand_of new c ≡ Some (record { requests = b.requests.items; room = b.room }))
+      × ((d : ℕ) → d ≢ c → hand_of new d ≡ hand_of old d))
 
   -- a side asked nothing, and has no answer yet
   pub record AwaitsNothing (old new : ClientView V O R T) : Type 0 where

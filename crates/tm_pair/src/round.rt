@@ -7,6 +7,7 @@ ghost use Rattle.tm_model.specs.State.{State, place_count};
 ghost use Rattle.tm_model.specs.Serve.{state_after};
 ghost use Rattle.tm_pair.specs.Views.{ClientView, Hand, TrusteeView, hand_of};
 ghost use Rattle.tm_pair.specs.Calls.{Publishes};
+ghost use Rattle.tm_pair.specs.declared.moves.Move.TheVariants.{Publish};
 ghost use Rattle.tm_pair.specs.Rounds.{NothingWaits, AnswersNothing, AnswersFound, FindsNothing};
 
 use crate::small_batch::SmallBatch;
@@ -27,6 +28,8 @@ pub fn ask_nothing<S: Entrusted, P: PairTable<S>>(
     ensures ok { OnOk result (Publishes [] 0 (P.client_view side.old) (P.client_view side.new)) }
     ensures err { OnErr result (P.client_view side.new ≡ P.client_view side.old) }
     ensures back { IfErr result (λ held. (held.0.requests.items ≡ []) × (held.0.room ≡ 0)) }
+    ensures stays { OnErr result (table.new ≡ table.old) }
+    ensures moved { OnOk result ((batch : Batch S S.Op S.Reply S.Task) × (batch.requests.items ≡ []) × (batch.room ≡ 0) × P.Moved (Publish (P.client_view side.old).place batch) table.old table.new) }
     ensures mine { P.HasClient table.new side.new }
     ensures opening { P.opening table.new ≡ P.opening table.old }
     ensures clients { (other : P.ClientSide) → (P.client_view other).place ≢ (P.client_view side.old).place → P.HasClient table.old other → P.HasClient table.new other }
@@ -57,7 +60,7 @@ fn answer_empty<S: Small, P: PairTable<S>>(
     requires hand { (room : ℕ) × (hand_of (P.trustee_view side.old) client ≡ Some (record { requests = []; room = room })) }
     requires waits { NothingWaits (state_after S.kind (P.opening table.old) (P.trustee_view side.old).log) client }
     requires front { front ≡ min (length (P.trustee_view side.old).log + 1) (2 ^ 64 - 1) }
-    ensures answers { AnswersNothing client (P.trustee_view side.old) (P.trustee_view side.new) }
+    ensures answers { (room : ℕ) → hand_of (P.trustee_view side.old) client ≡ Some (record { requests = []; room = room }) → AnswersNothing client room (P.trustee_view side.old) (P.trustee_view side.new) }
     ensures looks { (P.trustee_view side.new).looks ≡ (P.trustee_view side.old).looks }
     ensures mine { P.HasTrustee table.new side.new }
     ensures opening { P.opening table.new ≡ P.opening table.old }
@@ -84,7 +87,7 @@ pub fn answer_nothing<S: Small, P: PairTable<S>>(
     requires free { hand_of (P.trustee_view side.old) client ≡ None }
     requires waits { NothingWaits (state_after S.kind (P.opening table.old) (P.trustee_view side.old).log) client }
     requires front { front ≡ min (length (P.trustee_view side.old).log + 1) (2 ^ 64 - 1) }
-    ensures answers { IsSomeAnd result (λ b. b.requests.items ≡ []) → AnswersNothing client (P.trustee_view side.old) (P.trustee_view side.new) }
+    ensures answers { IsSomeAnd result (λ b. b.requests.items ≡ []) → (room : ℕ) × AnswersNothing client room (P.trustee_view side.old) (P.trustee_view side.new) }
     ensures found { AnswersFound client result (P.trustee_view side.old) (P.trustee_view side.new) }
     ensures log { ¬ IsSomeAnd result (λ b. b.requests.items ≡ []) → (P.trustee_view side.new).log ≡ (P.trustee_view side.old).log }
     ensures mine { P.HasTrustee table.new side.new }

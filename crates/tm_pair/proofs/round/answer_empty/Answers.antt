@@ -26,10 +26,9 @@ answer-requires g c =
     )
 
 pub returns-clause-answers : goal.returns-clause-answers
-returns-clause-answers g c =
+returns-clause-answers g c = λ room is.
     let opening = g.P.PairTable.opening c.args.table.now in
     let old = g.P.PairTable.trustee_view c.args.side.now in
     let new = g.P.PairTable.trustee_view c.answer.new.side in
     let good = g.met.P.PairTable.trustee_is_good c.args.table.now c.args.side.now c.requires.mine in
-    let (room, is) = c.requires.hand in
     nothing.nothing_answered g.S.Entrusted.kind opening c.args.client room c.new.result old new good c.requires.in_range is c.answer.ensures.answers

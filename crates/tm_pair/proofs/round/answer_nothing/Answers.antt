@@ -28,14 +28,17 @@ answer_empty-requires g c =
     }
 
 pub returns-then-is_nothing-clause-answers : goal.returns-then-is_nothing-clause-answers
-returns-then-is_nothing-clause-answers g c = λ some.
+returns-then-is_nothing-clause-answers g c =
     let kind = g.S.Entrusted.kind in
     let opening = g.P.PairTable.opening c.args.table.now in
     let old = g.P.PairTable.trustee_view c.args.side.now in
     let mid = g.P.PairTable.trustee_view c.see-seen.new.side in
     let new = g.P.PairTable.trustee_view c.answer_empty.new.side in
-    let log = nothing.seeing_keeps_log kind opening c.args.client c.see-seen.result old mid c.see-seen.ensures.sees in
-    nothing.nothing_answered_behind kind opening c.args.client old mid new log c.answer_empty.ensures.answers
+    let good = g.met.P.PairTable.trustee_is_good c.args.table.now c.args.side.now c.requires.mine in
+    let there = hand_in_range kind opening c.args.client old good c.requires.in_range in
+    nothing.empty_answered kind opening c.args.client c.see-seen.result old new
+    (nothing.found_answered kind opening c.args.client c.see-seen.result old mid new there c.see-seen.ensures.sees
+    (c.is_nothing.ensures.0 c.if-is_nothing.true) c.answer_empty.ensures.looks c.answer_empty.ensures.answers)
 
 pub returns-then-is_nothing-clause-clients : goal.returns-then-is_nothing-clause-clients
 returns-then-is_nothing-clause-clients g c = λ other mine. c.answer_empty.ensures.clients other (c.see-seen.ensures.clients other mine)
@@ -50,10 +53,10 @@ returns-then-is_nothing-clause-found g c =
     let old = g.P.PairTable.trustee_view c.args.side.now in
     let mid = g.P.PairTable.trustee_view c.see-seen.new.side in
     let new = g.P.PairTable.trustee_view c.answer_empty.new.side in
-    let log = nothing.seeing_keeps_log kind opening c.args.client c.see-seen.result old mid c.see-seen.ensures.sees in
-    let has = nothing.nothing_answered_behind kind opening c.args.client old mid new log c.answer_empty.ensures.answers in
-    nothing.found_answered kind opening c.args.client c.see-seen.result old mid new c.see-seen.ensures.sees (c.is_nothing.ensures.0 c.if-is_nothing.true)
-    c.answer_empty.ensures.looks has
+    let good = g.met.P.PairTable.trustee_is_good c.args.table.now c.args.side.now c.requires.mine in
+    let there = hand_in_range kind opening c.args.client old good c.requires.in_range in
+    nothing.found_answered kind opening c.args.client c.see-seen.result old mid new there c.see-seen.ensures.sees
+    (c.is_nothing.ensures.0 c.if-is_nothing.true) c.answer_empty.ensures.looks c.answer_empty.ensures.answers
 
 pub returns-else-is_nothing-clause-found : goal.returns-else-is_nothing-clause-found
 returns-else-is_nothing-clause-found g c =
