@@ -1,4 +1,4 @@
--- Trustees stay ready for a turn, and sides seated, through calls at other sides and turns of others.
+-- Trustees stay ready for a turn, and sides seated, through calls at other sides.
 use Rattle.std.proofs.Common.{◌≡◌, ◌≢◌, ℕ, zero, suc, ◌+◌, ◌<◌, ◌⊎◌, inl, inr, List, [], ◌∷◌, length, map, refl, sym, ◌∙◌, ap, subst, arith}
 use Rattle.std.proofs.lemmas.List.{length-set, get_or-set_same}
 use Rattle.std.proofs.lemmas.Option.{slice_get_within, slice_get-get_or}
@@ -13,8 +13,9 @@ use Rattle.tm_seq.specs.declared.counter.CounterReply.{CounterReply}
 use Rattle.tm_seq.specs.declared.counter.CounterTask.{CounterTask}
 use Rattle.tm_model.specs.State.{State}
 use Rattle.tm_pair.specs.Views.{ClientView, TrusteeView}
-use Rattle.tm_trustee.specs.Tables.{IsReady, KeepsTables}
-use Rattle.tm_tests.specs.Driving.{counting, IsSeated, IsDriven, KeepsOthers}
+use Rattle.tm_trustee.proofs.TurningTables.{set_elsewhere}
+use Rattle.tm_trustee.specs.Tables.{IsReady}
+use Rattle.tm_tests.specs.Driving.{counting, IsDriven, KeepsOthers}
 use Rattle.tm_trustee.specs.declared.trustee.Trustee.{Trustee}
 
 pub some_of : {X : Type 0} (o : Option X) (P : X → Type 0) → IsSomeAnd o P → (x : X) × (o ≡ Some x) × P x
@@ -106,6 +107,14 @@ module _ {V O R T Table Client : Type 0} (opening_at : Table → State V O R T) 
       slice_get-get_or (slice_set tables n becomes) n d more ∙ ap (λ x. Some x) reads in
       is_some (slice_get (slice_set tables n becomes) n) (λ table. (opening_at table ≡ opening) × HasClient table after) becomes here (kept ∙ opens, mine)
 
+  -- a side of another table is seated where it was
+  pub elsewhere_seated :
+      (tables : List Table) (n m : ℕ) (opening : State V O R T) (becomes : Table) (other : Client) → m ≢ n
+      → IsSomeAnd (slice_get tables m) (λ table. (opening_at table ≡ opening) × HasClient table other)
+      → IsSomeAnd (slice_get (slice_set tables n becomes) m) (λ table. (opening_at table ≡ opening) × HasClient table other)
+  elsewhere_seated tables n m opening becomes other ne seated =
+      subst (λ o. IsSomeAnd o (λ table. (opening_at table ≡ opening) × HasClient table other)) (sym (set_elsewhere tables n m becomes ne)) seated
+
 module _ {V O R T Table Client Owner : Type 0} (opening_at : Table → State V O R T) (client_view : Client → ClientView V O R T)
     (HasClient : Table → Client → Type 0) (HasTrustee : Table → Owner → Type 0) where
   pub still_ready :
@@ -137,7 +146,7 @@ module _ {V O R T Table Client Owner : Type 0} (opening_at : Table → State V O
 module _ {Table Client Owner : Type 0} (opening_at : Table → State Counter CounterOp CounterReply CounterTask)
     (client_view : Client → ClientView Counter CounterOp CounterReply CounterTask) (HasClient : Table → Client → Type 0)
     (HasTrustee : Table → Owner → Type 0) (trustee_view : Owner → TrusteeView Counter CounterOp CounterReply CounterTask) where
-  place_above : (old : List Table) (n : ℕ) (t : Trustee Counter Table CounterOp CounterReply CounterTask Client Owner)
+  pub place_above : (old : List Table) (n : ℕ) (t : Trustee Counter Table CounterOp CounterReply CounterTask Client Owner)
       → IsDriven opening_at client_view HasClient HasTrustee trustee_view old n t → (t.number ≡ n) × (t.clients ≡ 1)
   place_above old n t ready = (ready.serving.number, ready.serving.clients)
 
@@ -165,16 +174,3 @@ module _ {Table Client Owner : Type 0} (opening_at : Table → State Counter Cou
             (clients seat (λ same. ne (omega (arith, is, ones, up, same)))) ex ey)
             ready;
       }
-
-  -- a turn of trustee n leaves the sides of its own table
-  pub turn_keeps :
-      (old new : List Table) (n : ℕ) (t : Trustee Counter Table CounterOp CounterReply CounterTask Client Owner)
-      → IsDriven opening_at client_view HasClient HasTrustee trustee_view old n t
-      → KeepsTables opening_at client_view HasClient HasTrustee old new t.number (t.clients + t.number) → (other : Client)
-      → IsSeated opening_at client_view HasClient HasTrustee trustee_view old n other → IsSeated opening_at client_view HasClient HasTrustee trustee_view new n other
-  turn_keeps old new n t ready keeps other seated =
-      let (is, ones) = place_above old n t ready in
-      still_of opening_at HasClient (counting n) old new n other keeps.as_many keeps.openings
-      (λ x y ex ey.
-      keeps.clients_here x y (subst (λ k. slice_get old k ≡ Some x) (sym is) ex) (subst (λ k. slice_get new k ≡ Some y) (sym is) ey) other)
-      seated

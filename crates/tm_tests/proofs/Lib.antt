@@ -1,4 +1,5 @@
 mod DrivenAsked
 mod DrivenFirst
 mod DrivenKept
+mod DrivenTurned
 mod Sampling

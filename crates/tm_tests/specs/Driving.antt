@@ -57,7 +57,8 @@ module _ {Table Client Owner : Type 0} (opening_at : Table → State Counter Cou
   abbrev pub IsDriven : List Table → ℕ → Trustee Counter Table CounterOp CounterReply CounterTask Client Owner → Type 0
   IsDriven tables n t = IsReady opening_at client_view HasClient HasTrustee counter_kind trustee_view (counting n) tables t
 
-  -- what a call at a side of place c leaves of other sides, and of trustees that have another place above
+  -- what a call at a side of place c leaves, and a turn of the trustee that has place c above: the sides of other places, and the trustees
+  -- that have another place above
   pub record KeepsOthers (old new : List Table) (c : ℕ) : Type 0 where
     pub sides : (n : ℕ) (other : Client) → (client_view other).place ≢ c → IsSeated old n other → IsSeated new n other
     pub trustees : (n : ℕ) (t : Trustee Counter Table CounterOp CounterReply CounterTask Client Owner) → 1 + n ≢ c → IsDriven old n t → IsDriven new n t

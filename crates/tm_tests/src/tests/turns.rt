@@ -9,6 +9,7 @@ mod gate;
 mod looking;
 mod start;
 mod turning;
+mod upward;
 
 use self::asking::{ask_sum, say_bye};
 use self::gate::CountingGate;
@@ -41,8 +42,8 @@ fn one_trustee<P: PairTable<Counter>, G: Gate>(
     assert!(rt; ask_sum(tables, client));
     assert_eq!(rt; turn(trustee, tables, gate), Served::Moved(1));
     assert!(rt; collect_sum(tables, client));
-    assert!(rt; say_bye(tables, client));
-    assert!(rt; say_bye(tables, lower));
+    assert!(rt; say_bye(tables, 1, client));
+    assert!(rt; say_bye(tables, 1, lower));
     assert_eq!(rt; turn(trustee, tables, gate), Served::Ended);
 }
 

@@ -1,5 +1,5 @@
 //! What the places of these tests ask.
-ghost use Rattle.std.specs.Prelude.{◌≡◌, [], ◌∷◌, ◌<◌, IsTrue};
+ghost use Rattle.std.specs.Prelude.{◌≡◌, ◌≢◌, ℕ, [], ◌∷◌, ◌<◌, IsTrue};
 ghost use Rattle.tm_batch.specs.declared.message.Request.TheVariants.{Bye};
 ghost use Rattle.tm_model.specs.Slots.{no_slot};
 ghost use Rattle.tm_pair.specs.Stands.{client_of};
@@ -44,13 +44,18 @@ pub(super) fn ask_sum<P: PairTable<Counter>>(tables: &mut [P], side: &mut P::Cli
     tables[1].publish(side, sum()).is_ok()
 }
 
-/// A place says `Bye` at the greater trustee. Whether it could.
-pub(super) fn say_bye<P: PairTable<Counter>>(tables: &mut [P], side: &mut P::ClientSide) -> bool
-    requires mine { IsSeated P.opening P.client_view P.HasClient P.HasTrustee P.trustee_view tables.old 1 side.old }
+/// A place says `Bye` at the trustee of a number. Whether it could.
+pub(super) fn say_bye<P: PairTable<Counter>>(
+    tables: &mut [P],
+    number: usize,
+    side: &mut P::ClientSide,
+) -> bool
+    requires mine { IsSeated P.opening P.client_view P.HasClient P.HasTrustee P.trustee_view tables.old number side.old }
     requires may { MayBye (P.client_view side.old) }
     ensures place { (P.client_view side.new).place ≡ (P.client_view side.old).place }
-    ensures mine { IsSeated P.opening P.client_view P.HasClient P.HasTrustee P.trustee_view tables.new 1 side.new }
+    ensures mine { IsSeated P.opening P.client_view P.HasClient P.HasTrustee P.trustee_view tables.new number side.new }
     ensures others { KeepsOthers P.opening P.client_view P.HasClient P.HasTrustee P.trustee_view tables.old tables.new (P.client_view side.old).place }
+    ensures elsewhere { (n : ℕ) (other : P.ClientSide) → n ≢ number → IsSeated P.opening P.client_view P.HasClient P.HasTrustee P.trustee_view tables.old n other → IsSeated P.opening P.client_view P.HasClient P.HasTrustee P.trustee_view tables.new n other }
 {
-    tables[1].publish(side, bye()).is_ok()
+    tables[number].publish(side, bye()).is_ok()
 }

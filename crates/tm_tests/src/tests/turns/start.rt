@@ -1,9 +1,10 @@
 //! A runtime of one client and two trustees, of which the greater has a counter.
-ghost use Rattle.std.specs.Prelude.{◌≡◌, [], map, IfOk};
+ghost use Rattle.std.specs.Prelude.{◌≡◌, [], ◌∷◌, map, IfOk};
 ghost use Rattle.tm_seq.specs.Counting.{counter_kind};
 ghost use Rattle.tm_model.specs.Laws.{first_of};
+ghost use Rattle.tm_model.specs.Slots.{no_slot};
 ghost use Rattle.tm_pair.specs.Opened.{IsOpened};
-ghost use Rattle.tm_pair.specs.Stands.{trustee_of};
+ghost use Rattle.tm_pair.specs.Stands.{client_of, trustee_of};
 ghost use Rattle.tm_pair.specs.Plain.{client_at, trustee_at};
 ghost use Rattle.tm_tests.specs.Driving.{one_counter, counting};
 ghost use Rattle.tm_trustee.specs.Standing.{IsServing};
@@ -75,6 +76,33 @@ pub(super) fn greater(
         first,
         side,
         Vec::new(alloc),
+        Vec::new(alloc),
+    ) {
+        Ok(trustee) => Ok(trustee),
+        Err(_) => Err(AllocError),
+    }
+}
+
+/// The lesser trustee, on which no object is placed, with its side of the greater one's table.
+pub(super) fn lesser(
+    alloc: Global,
+    side: PlainTrustee<Counter>,
+    seat: PlainClient<Counter>,
+) -> Result<Trustee<Counter, PlainTable<Counter>>, AllocError>
+    requires side { trustee_at side ≡ trustee_of (first_of (counting 0)) }
+    requires seat { client_at seat ≡ client_of 1 no_slot }
+    ensures serving { IfOk result (λ t. IsServing counter_kind (counting 0) t.number t.clients t.estate (trustee_at t.side) t.stages.items (map client_at t.above.items) t.nested.items) }
+    ensures side { IfOk result (λ t. t.side ≡ side) }
+    ensures above { IfOk result (λ t. t.above.items ≡ seat ∷ []) }
+{
+    let above = vec![in alloc; seat]?;
+    match Trustee::new(
+        alloc,
+        0,
+        SMALL,
+        Vec::new(alloc),
+        side,
+        above,
         Vec::new(alloc),
     ) {
         Ok(trustee) => Ok(trustee),
