@@ -1,10 +1,10 @@
 -- Trustees stay ready for a turn, and sides seated, through calls at other sides.
-use Rattle.std.proofs.Common.{◌≡◌, ◌≢◌, ℕ, zero, suc, ◌+◌, ◌<◌, ◌⊎◌, inl, inr, List, [], ◌∷◌, length, map, refl, sym, ◌∙◌, ap, subst, arith}
+use Rattle.std.proofs.Common.{◌≡◌, ◌≢◌, ℕ, ◌+◌, ◌<◌, inl, inr, List, length, refl, sym, ◌∙◌, ap, subst, arith}
 use Rattle.std.proofs.lemmas.List.{length-set, get_or-set_same}
 use Rattle.std.proofs.lemmas.Option.{slice_get_within, slice_get-get_or}
 use Rattle.std.specs.Prelude.{slice_get, slice_set, slice_index_or, IsSomeAnd}
 use Rattle.std.specs.declared.option.Option.{Option}
-use Rattle.std.specs.declared.option.Option.TheVariants.{None, Some}
+use Rattle.std.specs.declared.option.Option.TheVariants.{Some}
 use Rattle.tm_seq.specs.Kind.{Kind}
 use Rattle.tm_seq.specs.Counting.{counter_kind}
 use Rattle.tm_seq.specs.declared.counter.Counter.{Counter}
@@ -13,58 +13,26 @@ use Rattle.tm_seq.specs.declared.counter.CounterReply.{CounterReply}
 use Rattle.tm_seq.specs.declared.counter.CounterTask.{CounterTask}
 use Rattle.tm_model.specs.State.{State}
 use Rattle.tm_pair.specs.Views.{ClientView, TrusteeView}
-use Rattle.tm_trustee.proofs.TurningTables.{set_elsewhere}
+use Rattle.tm_trustee.proofs.Elements.{set_cases, set_other, same_element, there_too, there, mapped}
 use Rattle.tm_trustee.specs.Tables.{IsReady}
 use Rattle.tm_tests.specs.Driving.{counting, IsDriven, KeepsOthers}
 use Rattle.tm_trustee.specs.declared.trustee.Trustee.{Trustee}
-
-pub some_of : {X : Type 0} (o : Option X) (P : X → Type 0) → IsSomeAnd o P → (x : X) × (o ≡ Some x) × P x
-some_of (Some x) P h = (x, refl, h)
-some_of None P h = absurd h
 
 pub is_some : {X : Type 0} (o : Option X) (P : X → Type 0) (x : X) → o ≡ Some x → P x → IsSomeAnd o P
 is_some o P x e h = subst (λ r. IsSomeAnd r P) (sym e) h
 
 module _ {X : Type 0} where
-  pub same_at : (xs : List X) (k : ℕ) (x y : X) → slice_get xs k ≡ Some x → slice_get xs k ≡ Some y → y ≡ x
-  same_at xs k x y ex ey = let same : Some y ≡ Some x = sym ey ∙ ex in cc
-
-  -- a list that is as long as another has an element wherever that has one
-  was_at : (old new : List X) (i : ℕ) (now : X) → length new ≡ length old → slice_get new i ≡ Some now → (was : X) × (slice_get old i ≡ Some was)
-  was_at old new i now same e =
-      let lt : i < length old = subst (λ n. i < n) same (slice_get_within new i now e) in
-      (_, slice_get-get_or old i now lt)
-
-  one_later :
-      (xs : List X) (i k : ℕ) (v w : X) → ((k ≡ i) × (w ≡ v)) ⊎ (slice_get xs k ≡ Some w)
-      → ((suc k ≡ suc i) × (w ≡ v)) ⊎ (slice_get xs k ≡ Some w)
-  one_later xs i k v w (inl h) = inl (ap (λ n. suc n) h.0, h.1)
-  one_later xs i k v w (inr h) = inr h
-
-  -- after a write an element is the one written, or that of before
-  written : (xs : List X) (i k : ℕ) (v w : X) → slice_get (slice_set xs i v) k ≡ Some w → ((k ≡ i) × (w ≡ v)) ⊎ (slice_get xs k ≡ Some w)
-  written [] i k v w e = absurd cc
-  written (x ∷ xs) zero zero v w e = let is : w ≡ v = cc in inl (refl, is)
-  written (x ∷ xs) zero (suc k) v w e = inr e
-  written (x ∷ xs) (suc i) zero v w e = inr e
-  written (x ∷ xs) (suc i) (suc k) v w e = one_later xs i k v w (written xs i k v w e)
-
   -- so what joins the one of before with the one written joins what stood at each index with what stands there
   pub joined :
       (Joins : X → X → Type 0) → ((x : X) → Joins x x) → (xs : List X) (i k : ℕ) (was becomes old new : X)
       → slice_get xs i ≡ Some was → Joins was becomes → slice_get xs k ≡ Some old → slice_get (slice_set xs i becomes) k ≡ Some new → Joins old new
   joined Joins self xs i k was becomes old new at joins was_there e =
-      elim (written xs i k becomes new e) [
+      elim (set_cases xs i k becomes new e) [
         | inl h ↦
             let here : slice_get xs i ≡ Some old = subst (λ n. slice_get xs n ≡ Some old) h.0 was_there in
-            subst (λ x. Joins x new) (sym (same_at xs i was old at here)) (subst (λ x. Joins was x) (sym h.1) joins)
-        | inr h ↦ subst (λ x. Joins old x) (sym (same_at xs k old new was_there h)) (self old)
+            subst (λ x. Joins x new) (sym (same_element xs i was old at here)) (subst (λ x. Joins was x) (sym h.1) joins)
+        | inr h ↦ subst (λ x. Joins old x) (sym (same_element xs k old new was_there h.1)) (self old)
       ]
-
-  mapped : {Y : Type 0} (f : X → Y) (xs : List X) (k : ℕ) (x : X) → slice_get xs k ≡ Some x → slice_get (map f xs) k ≡ Some (f x)
-  mapped f [] k x e = absurd cc
-  mapped f (y ∷ xs) zero x e = let is : y ≡ x = cc in ap (λ z. Some (f z)) is
-  mapped f (y ∷ xs) (suc k) x e = mapped f xs k x e
 
 module _ {V O R T Table : Type 0} (opening_at : Table → State V O R T) where
   -- what is of a table is of the one at the same number later
@@ -75,8 +43,8 @@ module _ {V O R T Table : Type 0} (opening_at : Table → State V O R T) where
       → IsSomeAnd (slice_get old n) (λ table. (opening_at table ≡ opening) × Has table a)
       → IsSomeAnd (slice_get new n) (λ table. (opening_at table ≡ opening) × Has table a)
   still_of Has opening old new n a many openings keeps is =
-      let (was, at, (opens, has)) = some_of (slice_get old n) (λ table. (opening_at table ≡ opening) × Has table a) is in
-      let (now, e) = was_at new old n was (sym many) at in
+      let (was, at, (opens, has)) = there (λ table. (opening_at table ≡ opening) × Has table a) (slice_get old n) is in
+      let (now, e) = there_too old new n was many at in
       is_some (slice_get new n) (λ table. (opening_at table ≡ opening) × Has table a) now e (openings n was now at e ∙ opens, keeps was now at e has)
 
 module _ {V O R T Table Client : Type 0} (opening_at : Table → State V O R T) (HasClient : Table → Client → Type 0) where
@@ -87,9 +55,9 @@ module _ {V O R T Table Client : Type 0} (opening_at : Table → State V O R T) 
       → (slice_get tables n ≡ Some (slice_index_or tables n d)) × (opening_at (slice_index_or tables n d) ≡ opening)
       × HasClient (slice_index_or tables n d) side
   seat_of tables n opening d side seated =
-      let (table, at, (opens, has)) = some_of (slice_get tables n) (λ x. (opening_at x ≡ opening) × HasClient x side) seated in
+      let (table, at, (opens, has)) = there (λ x. (opening_at x ≡ opening) × HasClient x side) (slice_get tables n) seated in
       let here : slice_get tables n ≡ Some (slice_index_or tables n d) = slice_get-get_or tables n d (slice_get_within tables n table at) in
-      let is : table ≡ slice_index_or tables n d = same_at tables n (slice_index_or tables n d) table here at in
+      let is : table ≡ slice_index_or tables n d = same_element tables n (slice_index_or tables n d) table here at in
       (here, subst (λ x. opening_at x ≡ opening) is opens, subst (λ x. HasClient x side) is has)
 
   -- a side after a call of it is seated where it was
@@ -113,7 +81,7 @@ module _ {V O R T Table Client : Type 0} (opening_at : Table → State V O R T) 
       → IsSomeAnd (slice_get tables m) (λ table. (opening_at table ≡ opening) × HasClient table other)
       → IsSomeAnd (slice_get (slice_set tables n becomes) m) (λ table. (opening_at table ≡ opening) × HasClient table other)
   elsewhere_seated tables n m opening becomes other ne seated =
-      subst (λ o. IsSomeAnd o (λ table. (opening_at table ≡ opening) × HasClient table other)) (sym (set_elsewhere tables n m becomes ne)) seated
+      subst (λ o. IsSomeAnd o (λ table. (opening_at table ≡ opening) × HasClient table other)) (sym (set_other tables n m becomes ne)) seated
 
 module _ {V O R T Table Client Owner : Type 0} (opening_at : Table → State V O R T) (client_view : Client → ClientView V O R T)
     (HasClient : Table → Client → Type 0) (HasTrustee : Table → Owner → Type 0) where
@@ -131,13 +99,13 @@ module _ {V O R T Table Client Owner : Type 0} (opening_at : Table → State V O
       record {
         serving = ready.serving;
         built = record {
-          built = (config, whole, λ i now e. let (was, at) = was_at old new i now many e in openings i was now at e ∙ each i was at);
+          built = (config, whole, λ i now e. let (was, at) = there_too new old i now (sym many) e in openings i was now at e ∙ each i was at);
         };
         home = still_of opening_at HasTrustee opening old new t.number t.side many openings home ready.home;
         above = record {
           as_many = ready.above.as_many ∙ sym many;
           mine = λ i now seat e of.
-              let (was, at) = was_at old new (t.number + 1 + i) now many e in
+              let (was, at) = there_too new old (t.number + 1 + i) now (sym many) e in
               let up = ready.serving.above.places i (client_view seat) (mapped client_view t.above.items i seat of) in
               above (t.number + 1 + i) was now seat (omega arith) at e up (ready.above.mine i was seat at of);
         };

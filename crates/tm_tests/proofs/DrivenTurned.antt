@@ -12,7 +12,8 @@ use Rattle.tm_model.specs.State.{State}
 use Rattle.tm_pair.specs.Views.{ClientView, TrusteeView}
 use Rattle.tm_trustee.specs.Tables.{KeepsTables}
 use Rattle.tm_tests.specs.Driving.{counting, IsSeated, IsDriven, KeepsOthers}
-use Rattle.tm_tests.proofs.DrivenKept.{same_at, still_of, still_ready, place_above}
+use Rattle.tm_trustee.proofs.Elements.{same_element}
+use Rattle.tm_tests.proofs.DrivenKept.{still_of, still_ready, place_above}
 use Rattle.tm_trustee.specs.declared.trustee.Trustee.{Trustee}
 
 module _ {Table Client Owner : Type 0} (opening_at : Table → State Counter CounterOp CounterReply CounterTask)
@@ -38,7 +39,7 @@ module _ {Table Client Owner : Type 0} (opening_at : Table → State Counter Cou
   owner_keeps old new n k was now other keeps ne at e has =
       elim (cases_order k n) [
         | inl same ↦ absurd (ne same)
-        | inr (inl lt) ↦ subst (λ x. HasTrustee x other) (sym (same_at old k was now at (sym (keeps.lower k lt) ∙ e))) has
+        | inr (inl lt) ↦ subst (λ x. HasTrustee x other) (sym (same_element old k was now at (sym (keeps.lower k lt) ∙ e))) has
         | inr (inr lt) ↦ keeps.trustees_above k was now lt at e other has
       ]
 
@@ -50,7 +51,7 @@ module _ {Table Client Owner : Type 0} (opening_at : Table → State Counter Cou
       elim (cases_order k n) [
         | inl is ↦
             keeps.clients_here was now (subst (λ m. slice_get old m ≡ Some was) is at) (subst (λ m. slice_get new m ≡ Some now) is e) other has
-        | inr (inl lt) ↦ subst (λ x. HasClient x other) (sym (same_at old k was now at (sym (keeps.lower k lt) ∙ e))) has
+        | inr (inl lt) ↦ subst (λ x. HasClient x other) (sym (same_element old k was now at (sym (keeps.lower k lt) ∙ e))) has
         | inr (inr lt) ↦ keeps.clients_above k was now lt at e other ne has
       ]
 

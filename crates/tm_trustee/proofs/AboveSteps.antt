@@ -12,7 +12,7 @@ use Rattle.tm_trustee.specs.Above.{IsAt, LooksUp, SaysBye, LooksUpAt, SaysByeAt,
 use Rattle.tm_trustee.specs.AboveAt.{MovesUp, MovesAt, EachAt}
 use Rattle.tm_trustee.specs.Tables.{AreAmong, KeepsAbove}
 use Rattle.tm_trustee.specs.declared.stage.Stage.{Stage}
-use Rattle.tm_trustee.proofs.AboveLists.{set_cases, set_other, element_at, same_element, mapped_from, mapped}
+use Rattle.tm_trustee.proofs.Elements.{set_cases, set_other, element_at, same_element, mapped_from, mapped}
 
 shifted : (a b d rest : ℕ) → b ≡ 0 → a ≡ d → a + rest ≡ (b + rest) + d
 shifted a b d rest none is = omega arith

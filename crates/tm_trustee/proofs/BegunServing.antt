@@ -20,7 +20,7 @@ use Rattle.tm_trustee.specs.Standing.{IsServing}
 use Rattle.tm_trustee.specs.Begun.{MayBegin, IsNewHome, IsNewSeat}
 use Rattle.tm_trustee.specs.declared.stage.Stage.{Stage}
 use Rattle.tm_trustee.specs.declared.stage.Stage.TheVariants.{Before}
-use Rattle.tm_trustee.proofs.AboveLists.{mapped_from}
+use Rattle.tm_trustee.proofs.Elements.{mapped_from}
 
 repeated : {X : Type 0} (n k : ℕ) (x y : X) → slice_get (replicate n x) k ≡ Some y → y ≡ x
 repeated zero k x y e = absurd cc

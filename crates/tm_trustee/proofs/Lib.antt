@@ -1,7 +1,7 @@
 pub mod AboveBye
-pub mod AboveLists
 pub mod AboveSteps
 pub mod BegunServing
+pub mod Elements
 pub mod Serving
 pub mod TurningAbove
 pub mod TurningLooks

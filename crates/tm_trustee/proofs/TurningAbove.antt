@@ -15,7 +15,7 @@ use Rattle.tm_trustee.specs.declared.stage.Stage.{Stage}
 use Rattle.tm_trustee.specs.declared.stage.Stage.TheVariants.{Before, Out, Over}
 use Rattle.tm_trustee.specs.declared.served.Served.{Served}
 use Rattle.tm_trustee.specs.declared.served.Served.TheVariants.{Moved, Quiet, Ended}
-use Rattle.tm_trustee.proofs.AboveLists.{element_at}
+use Rattle.tm_trustee.proofs.Elements.{element_at}
 
 module _ {V O R T : Type 0} where
   -- what a side sent and got only grows

@@ -6,7 +6,7 @@ use Rattle.tm_pair.specs.Views.{ClientView}
 use Rattle.tm_pair.specs.declared.moves.Move.{Move}
 use Rattle.tm_trustee.specs.Above.{LooksUpAt, SaysByeAt, GoesUpAt}
 use Rattle.tm_trustee.specs.AboveAt.{EachAt}
-use Rattle.tm_trustee.proofs.TurningTables.{there_too, same_element}
+use Rattle.tm_trustee.proofs.Elements.{there_too, same_element}
 
 module _ {V O R T Table Client : Type 0} (HasMoved : Move V O R T → Table → Table → Type 0) (client_view : Client → ClientView V O R T) where
   -- where one condition stands for another

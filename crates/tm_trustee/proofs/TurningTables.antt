@@ -1,11 +1,11 @@
 -- What a turn leaves of the tables, from what its parts leave.
-use Rattle.std.proofs.Common.{◌≡◌, ◌≢◌, ℕ, ◌+◌, ◌<◌, ◌≤◌, zero, suc, List, [], ◌∷◌, length, map, slice_index_or, slice_set, length-set, get_or-set_same, inl, inr, refl, sym, ◌∙◌, ap, subst, arith}
+use Rattle.std.proofs.Common.{◌≡◌, ◌≢◌, ℕ, ◌+◌, ◌<◌, ◌≤◌, List, length, map, slice_index_or, slice_set, length-set, inl, inr, refl, sym, ◌∙◌, ap, subst, arith}
 use Rattle.std.specs.Prelude.{slice_get, IsSomeAnd}
 use Rattle.std.specs.declared.option.Option.{Option}
 use Rattle.std.specs.declared.option.Option.TheVariants.{None, Some}
 use Rattle.std.proofs.lemmas.Bool.{cases_eq}
 use Rattle.std.proofs.lemmas.List.{length-map}
-use Rattle.std.proofs.lemmas.Option.{slice_get_within, slice_get-get_or, slice_get_read}
+use Rattle.std.proofs.lemmas.Option.{slice_get_within, slice_get_read}
 use Rattle.tm_seq.specs.Kind.{Kind}
 use Rattle.tm_model.specs.State.{State, place_count}
 use Rattle.tm_estate.specs.Holding.{Holding}
@@ -16,31 +16,7 @@ use Rattle.tm_trustee.specs.Above.{IsAbove}
 use Rattle.tm_trustee.specs.Standing.{AreNested}
 use Rattle.tm_trustee.specs.Tables.{AreOfOne, AreAmong, KeepsAbove, KeepsTables, IsReady}
 use Rattle.tm_trustee.specs.declared.trustee.Trustee.{Trustee}
-
--- a list as long has an element there too
-pub there_too :
-    {X : Type 0} (xs ys : List X) (i : ℕ) (x : X) → length ys ≡ length xs → slice_get xs i ≡ Some x → (y : X) × (slice_get ys i ≡ Some y)
-there_too xs ys i x many is =
-    (slice_index_or ys i x, slice_get-get_or ys i x (subst (λ n. i < n) (sym many) (slice_get_within xs i x is)))
-
-pub set_elsewhere : {X : Type 0} (xs : List X) (i k : ℕ) (v : X) → k ≢ i → slice_get (slice_set xs i v) k ≡ slice_get xs k
-set_elsewhere [] i k v ne = refl
-set_elsewhere (x ∷ xs) zero zero v ne = absurd (ne refl)
-set_elsewhere (x ∷ xs) zero (suc k) v ne = refl
-set_elsewhere (x ∷ xs) (suc i) zero v ne = refl
-set_elsewhere (x ∷ xs) (suc i) (suc k) v ne = set_elsewhere xs i k v (λ e. ne (ap (λ n. suc n) e))
-
-pub set_here : {X : Type 0} (xs : List X) (i : ℕ) (v : X) → i < length xs → slice_get (slice_set xs i v) i ≡ Some v
-set_here xs i v lt =
-    slice_get-get_or (slice_set xs i v) i v (subst (λ n. i < n) (sym (length-set xs i v)) lt) ∙ ap (λ y. Some y) (get_or-set_same xs i v v lt)
-
-pub same_element : {X : Type 0} (xs : List X) (k : ℕ) (x y : X) → slice_get xs k ≡ Some x → slice_get xs k ≡ Some y → y ≡ x
-same_element xs k x y ex ey = let same : Some y ≡ Some x = sym ey ∙ ex in cc
-
--- the element that is there
-pub there : {X : Type 0} (P : X → Type 0) (o : Option X) → IsSomeAnd o P → (x : X) × (o ≡ Some x) × P x
-there P None some = absurd some
-there P (Some x) holds = (x, refl, holds)
+use Rattle.tm_trustee.proofs.Elements.{set_other, set_here, same_element, there_too, there}
 
 module _ {V O R T Table Client Owner : Type 0} (opening_at : Table → State V O R T) (client_view : Client → ClientView V O R T)
     (HasClient : Table → Client → Type 0) (HasTrustee : Table → Owner → Type 0) where
@@ -120,7 +96,7 @@ module _ {V O R T Table Client Owner : Type 0} (opening_at : Table → State V O
       → KeepsOwn tables (slice_set tables n now) n
   own_kept tables n was now is opening clients = record {
     as_many = length-set tables n now;
-    others = λ t ne. set_elsewhere tables n t now ne;
+    others = λ t ne. set_other tables n t now ne;
     opening = λ before after is_before is_after.
         let one : before ≡ was = let e : Some before ≡ Some was = sym is_before ∙ is in cc in
         let two : after ≡ now = let e : Some after ≡ Some now = sym is_after ∙ set_here tables n now (slice_get_within tables n was is) in cc in

@@ -4,6 +4,7 @@ use Rattle.tm_model.specs.State.{place_count}
 use Rattle.tm_estate.specs.Standing.{Stands}
 use Rattle.tm_trustee.specs.Places.{ServesBelow, found_below}
 use Rattle.tm_trustee.proofs.TurningLooks as looks
+use Rattle.tm_trustee.proofs.Elements.{same_element, set_here}
 use Rattle.tm_trustee.proofs.TurningTables as tables
 use Rattle.tm_trustee.proofs.trustee.Trustee.serve_table.Goals as goal
 
@@ -80,10 +81,10 @@ returns-clause-serves g c = λ opening was now there still ready.
     let first = table.trustee_view t.side in
     let last = table.trustee_view c.serve_places.new.side in
     let becomes = c.serve_places.new.table in
-    let one : was ≡ own = tables.same_element c.args.tables.now t.number own was here there in
+    let one : was ≡ own = same_element c.args.tables.now t.number own was here there in
     let within = slice_get_within c.args.tables.now t.number own here in
     let two : now ≡ becomes =
-    tables.same_element (slice_set c.args.tables.now t.number becomes) t.number becomes now (tables.set_here c.args.tables.now t.number becomes within) still in
+    same_element (slice_set c.args.tables.now t.number becomes) t.number becomes now (set_here c.args.tables.now t.number becomes within) still in
     subst (λ x. ServesBelow table.Moved kind opening (place_count opening.setup) x now first last) (sym one)
     (subst (λ x. ServesBelow table.Moved kind opening (place_count opening.setup) own x first last) (sym two)
     (subst (λ n. ServesBelow table.Moved kind opening n own becomes first last) many
