@@ -23,6 +23,8 @@ module _ {V O R T : Type 0} where
     next_ticket = k.next_ticket;
     counts = k.counts;
     launched = k.launched;
+    works = k.works;
+    tickets = k.tickets;
     most = k.most;
     ready = k.ready;
   }
@@ -34,7 +36,7 @@ module _ {V O R T : Type 0} where
       let gifts = map-set_same (λ (q : Place V O R T). q.gifts) s.places c p no_place refl in
       let closed = map-set_same (λ (q : Place V O R T). q.is_closed) s.places c p no_place refl in
       recounted (counted c s) h run entries
-      (keeps_place s h c p s.live h.stock h.closed k (λ _. refl) refl
+      (keeps_place s h c p s.live h.stock h.closed k (λ _. refl) (λ _ _ _ w. w) refl
       (k.stock ∙ ap (λ (g : List (List Name)). record (stock_of s) { gifts = g }) (sym gifts)) (k.closed ∙ sym closed))
 
   pub keeps_sent :
@@ -46,4 +48,4 @@ module _ {V O R T : Type 0} where
       let ready : drop 16 (place_of s c).ready ≡ [] = ap (λ l. drop 16 l) none ∙ drop-nil 16 in
       let closed = map-set_same (λ (q : Place V O R T). q.is_closed) s.places c p no_place refl in
       recounted (sent_off c room s) (record h { stock = stock }) h.run entries
-      (keeps_place s h c p s.live stock h.closed k (λ _. refl) (ready ∙ sym none) is (k.closed ∙ sym closed))
+      (keeps_place s h c p s.live stock h.closed k (λ _. refl) (λ _ _ _ w. w) (ready ∙ sym none) is (k.closed ∙ sym closed))

@@ -15,3 +15,4 @@ pub mod RowsLaunch
 pub mod RowsLive
 pub mod RowsOrder
 pub mod RowsTotal
+pub mod RowsWorks

@@ -1,5 +1,5 @@
 -- What a trustee has at first is what the state says in which it opens.
-use Rattle.std.proofs.Common.{◌≡◌, ◌≢◌, ℕ, zero, suc, ◌+◌, ◌<◌, true, false, List, [], ◌∷◌, ◌++◌, length, map, refl, sym, ◌∙◌, ap, subst, arith, length-append, append-nil}
+use Rattle.std.proofs.Common.{◌≡◌, ◌≢◌, ℕ, zero, suc, ◌+◌, ◌<◌, true, false, List, [], ◌∷◌, ◌++◌, length, map, slice_index_or, refl, sym, ◌∙◌, ap, subst, arith, length-append, append-nil}
 use Rattle.std.specs.Prelude.{◌==◌, nat_eq, replicate}
 use Rattle.std.specs.List.{AllByRecursion, IsDistinct}
 use Rattle.std.proofs.lemmas.List.{length-map, length-replicate, get_or-replicate}
@@ -120,6 +120,7 @@ module _ {V O R T : Type 0} (kind : Kind V O R T) where
       let gifts : replicate n [] ≡ map (λ p. p.gifts) s.places = sym (map-replicate (λ (p : Place V O R T). p.gifts) n no_place) in
       let closed : replicate n false ≡ map (λ p. p.is_closed) s.places = sym (map-replicate (λ (p : Place V O R T). p.is_closed) n no_place) in
       let wide : length s.places ≡ n = length-replicate n no_place in
+      let empty : (c : ℕ) → c < n → slice_index_or (replicate {A = List (ℕ × ℕ)} n []) c [] ≡ [] = λ c lt. get_or-replicate {A = List (ℕ × ℕ)} n c [] [] lt in
       let whole_is : h ≡ begun_with T number config (placed_on number whole) = e ∙ ap (begun_with T number config) may.placed in
       rw whole_is (record {
         opens = opens;
@@ -130,8 +131,10 @@ module _ {V O R T : Type 0} (kind : Kind V O R T) where
           stock = ap (λ g. record (stock_of s) { gifts = g }) gifts;
           closed = closed;
           next_ticket = refl;
-          counts = length-replicate {A = ℕ} n 0 ∙ sym wide;
-          launched = λ c lt. get_or-replicate {A = ℕ} n c 0 0 (omega (arith, lt, wide)) ∙ sym (opening_unfinished s c opens);
+          counts = length-replicate {A = List (ℕ × ℕ)} n [] ∙ sym wide;
+          launched = λ c lt. ap length (empty c (omega (arith, lt, wide))) ∙ sym (opening_unfinished s c opens);
+          works = λ c lt. rw (empty c (omega (arith, lt, wide))) tt;
+          tickets = λ c lt. rw (empty c (omega (arith, lt, wide))) (omega arith);
           most = λ c lt. let none = opening_unfinished s c opens in omega (arith, none);
           ready = all_replicate (λ (p : Place V O R T). p.ready ≡ []) n no_place refl;
         };

@@ -17,6 +17,7 @@ use Rattle.tm_estate.specs.Holding.{Holding}
 use Rattle.tm_estate.specs.Asking.{IsAsked}
 use Rattle.tm_estate.proofs.RowsOrder.{alone, change_same, sound_ordered}
 use Rattle.tm_estate.proofs.RowsKeep.{Row, keeps_live}
+use Rattle.tm_estate.proofs.RowsWorks.{stay_change}
 use Rattle.tm_estate.proofs.RowsLive.{HeldAt, held_at, of_object, from_live, is_held}
 
 module _ {V O R T : Type 0} (kind : Kind V O R T) (laws : KindLaws kind) where
@@ -42,5 +43,6 @@ module _ {V O R T : Type 0} (kind : Kind V O R T) (laws : KindLaws kind) where
         (λ x is named. ap (λ (z : V). record x { value = z }) (new ∙ ap (λ (y : Object V T). value_run kind y.value op r) (sym (is named)))) only) in (
           (is_held at, of_object at (λ x. IsRun kind x.value op (value_run kind x.value op r) r) (subst (λ x. IsRun kind o.value op x r) new lawful)),
           keeps_live s h s.next_id (change n.id f s.live) (changed n.id h.stock w) k (λ d. unfinished_change d n.id f s.live (λ x. refl))
+              (stay_change n.id f s.live (λ x. refl) (λ x d ticket w. w))
               (ap (λ (x : Stock V). changed n.id x w) k.stock ∙ sym (changes_alike V O R T n.id w s) ∙ ap (λ l. stock_of (with_live l s)) same),
         )

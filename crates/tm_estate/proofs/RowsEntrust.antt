@@ -23,6 +23,7 @@ use Rattle.tm_core.proofs.Unfinished.{unfinished-append}
 use Rattle.tm_estate.specs.Holding.{Holding}
 use Rattle.tm_estate.specs.Standing.{Keeps}
 use Rattle.tm_estate.proofs.RowsKeep.{Row, keeps_live}
+use Rattle.tm_estate.proofs.RowsWorks.{stay_append}
 
 module _ {V O R T : Type 0} (kind : Kind V O R T) (s : State V O R T) (c : ℕ) (v : V) (h : Holding V) (k : Keeps s h) (stock : Stock V)
     (r : Result Name (Refusal × V))
@@ -52,6 +53,7 @@ module _ {V O R T : Type 0} (kind : Kind V O R T) (s : State V O R T) (c : ℕ) 
           (id, omega (arith, room, most, long), omega (arith, left, next, last)),
           keeps_live s h (s.next_id + 1) (serve.entrusted c v name s).live stock k
               (λ d. let more = unfinished-append d s.live (record { id = name.id; value = v; holds = slice_set (map (λ _. 0) s.places) c 1; works = [] } ∷ []) in omega (arith, more))
+              (stay_append s.live _)
               (is ∙ ap (entrusted c v) k.stock ∙ sym (entrusts_alike V O R T c v name s id)),
         )
 

@@ -1,5 +1,5 @@
 -- A hold is granted.
-use Rattle.std.proofs.Common.{◌≡◌, ℕ, ◌<◌, ◌≤◌, Bool, true, false, [], ◌∷◌, ◌++◌, length, slice_index_or, inl, inr, refl, sym, ◌∙◌, ap, subst, arith}
+use Rattle.std.proofs.Common.{◌≡◌, ℕ, ◌+◌, ◌<◌, ◌≤◌, Bool, true, false, [], ◌∷◌, ◌++◌, length, slice_index_or, inl, inr, refl, sym, ◌∙◌, ap, subst, arith}
 use Rattle.std.proofs.Math.ListN.{get_or-map}
 use Rattle.std.proofs.Math.Seq.{map-set_same}
 use Rattle.std.proofs.lemmas.Bool.{cases_lt, false≢true}
@@ -9,7 +9,7 @@ use Rattle.tm_batch.specs.declared.message.Name.{Name}
 use Rattle.tm_batch.specs.declared.message.Request.TheVariants.{Grant}
 use Rattle.tm_batch.specs.declared.message.Answer.{Answer}
 use Rattle.tm_batch.specs.declared.message.Answer.TheVariants.{Granted, GiftsFull}
-use Rattle.tm_model.specs.State.{Place, State, no_place, place_of, place_count, holds_of}
+use Rattle.tm_model.specs.State.{Place, State, no_place, place_of, place_count, holds_of, with_holds}
 use Rattle.tm_model.specs.Serve as serve
 use Rattle.tm_model.specs.Legal.{IsGiftRefused}
 use Rattle.tm_objects.specs.Live.{count_in, object_of}
@@ -20,6 +20,7 @@ use Rattle.tm_estate.specs.Holding.{Holding}
 use Rattle.tm_estate.specs.Standing.{Keeps}
 use Rattle.tm_estate.specs.Asking.{IsAsked}
 use Rattle.tm_estate.proofs.RowsKeep.{Row, keeps_place}
+use Rattle.tm_estate.proofs.RowsWorks.{stay_change}
 use Rattle.tm_estate.proofs.RowsLive.{HeldAt, held_at, of_object, is_held}
 
 module _ {V O R T : Type 0} (kind : Kind V O R T) (opening s : State V O R T) (c : ℕ) (h : Holding V) (n : Name) (to : ℕ)
@@ -75,7 +76,8 @@ module _ {V O R T : Type 0} (kind : Kind V O R T) (opening s : State V O R T) (c
                   (elim [ inl full ↦ omega (arith, full, few, long) | inr full ↦ omega (arith, full, less, count) ]),
             ),
           ),
-          keeps_place s h to p (serve.granted n to s).live stock h.closed asked.keeps (λ d. unfinished_change d n.id _ s.live (λ o. refl)) refl
+          keeps_place s h to p (serve.granted n to s).live stock h.closed asked.keeps (λ d. unfinished_change d n.id _ s.live (λ o. refl))
+              (stay_change n.id (λ o. with_holds to (holds_of o to + 1) o) s.live (λ o. refl) (λ o d ticket w. w)) refl
               (is ∙ ap (granted n to) asked.keeps.stock ∙ sym (grants_alike V O R T n to s))
               (asked.keeps.closed ∙ sym (map-set_same (λ (p : Place V O R T). p.is_closed) s.places to p no_place refl)),
         )

@@ -10,10 +10,11 @@ use Rattle.tm_model.specs.State.{Object, Place, State, no_place, place_of, with_
 use Rattle.tm_model.specs.Holds.{unfinished}
 use Rattle.tm_objects.specs.Stock.{Stock}
 use Rattle.tm_objects.specs.Standing.{stock_of}
+use Rattle.tm_core.proofs.Every.{all_set, all_at, all_weaker}
 use Rattle.tm_estate.specs.Holding.{Holding}
 use Rattle.tm_estate.specs.Standing.{Keeps}
 use Rattle.tm_estate.specs.Asking.{IsAsked, HasServed}
-use Rattle.tm_core.proofs.Every.{all_set, all_at}
+use Rattle.tm_estate.proofs.RowsWorks.{WorksStay}
 
 module _ {V O R T : Type 0} where
   -- a may answer the request q of place c, and what is had then is what the state says then
@@ -33,9 +34,9 @@ module _ {V O R T : Type 0} where
   -- a row that changes the live objects and the next id
   pub keeps_live :
       (s : State V O R T) (h : Holding V) (next_id : ℕ) (live : List (Object V T)) (stock : Stock V) → Keeps s h
-      → ((c : ℕ) → unfinished c live ≡ unfinished c s.live) → stock ≡ stock_of (record s { next_id = next_id; live = live })
+      → ((c : ℕ) → unfinished c live ≡ unfinished c s.live) → WorksStay s.live live → stock ≡ stock_of (record s { next_id = next_id; live = live })
       → Keeps (record s { next_id = next_id; live = live }) (record h { stock = stock })
-  keeps_live s h next_id live stock k same is = record {
+  keeps_live s h next_id live stock k same stay is = record {
     config = k.config;
     number = k.number;
     stock = is;
@@ -43,6 +44,8 @@ module _ {V O R T : Type 0} where
     next_ticket = k.next_ticket;
     counts = k.counts;
     launched = λ c lt. k.launched c lt ∙ sym (same c);
+    works = λ c lt. all_weaker _ _ _ (λ w. stay c w.0 w.1) (k.works c lt);
+    tickets = k.tickets;
     most = λ c lt. let most = k.most c lt in let e = same c in omega (arith, most, e);
     ready = k.ready;
   }
@@ -53,10 +56,10 @@ module _ {V O R T : Type 0} where
   -- a row that changes the live objects and a place
   pub keeps_place :
       (s : State V O R T) (h : Holding V) (d : ℕ) (p : Place V O R T) (live : List (Object V T)) (stock : Stock V) (closed : List Bool) → Keeps s h
-      → ((c : ℕ) → unfinished c live ≡ unfinished c s.live) → p.ready ≡ (place_of s d).ready
+      → ((c : ℕ) → unfinished c live ≡ unfinished c s.live) → WorksStay s.live live → p.ready ≡ (place_of s d).ready
       → stock ≡ stock_of (with_place d p (with_live live s)) → closed ≡ map (λ p. p.is_closed) (slice_set s.places d p)
       → Keeps (with_place d p (with_live live s)) (record h { stock = stock; closed = closed })
-  keeps_place s h d p live stock closed k same ready is shut =
+  keeps_place s h d p live stock closed k same stay ready is shut =
       let long : length (slice_set s.places d p) ≡ length s.places = length-set s.places d p in
       record {
         config = k.config;
@@ -66,6 +69,8 @@ module _ {V O R T : Type 0} where
         next_ticket = k.next_ticket;
         counts = k.counts ∙ sym long;
         launched = λ c lt. k.launched c (omega (arith, long, lt)) ∙ sym (same c);
+        works = λ c lt. all_weaker _ _ _ (λ w. stay c w.0 w.1) (k.works c (omega (arith, long, lt)));
+        tickets = λ c lt. k.tickets c (omega (arith, long, lt));
         most = λ c lt. let most = k.most c (omega (arith, long, lt)) in let e = same c in omega (arith, most, e);
         ready = all_set (λ (p : Place V O R T). p.ready ≡ []) s.places d p (ready ∙ none_ready s d k.ready) k.ready;
       }

@@ -41,7 +41,7 @@ module _ {V : Type 0} where
         gifts = replicate (config.clients + number) [];
       };
       closed = replicate (config.clients + number) false;
-      launched = replicate (config.clients + number) 0;
+      launched = replicate (config.clients + number) [];
       next_ticket = 1;
       run = 0;
       entries = 0;

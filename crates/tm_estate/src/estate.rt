@@ -8,8 +8,8 @@ use tm_seq::Entrusted;
 
 /// What one trustee has of its own, at some point of its log.
 ///
-/// Launched work is accepted, and nothing goes on with it yet, so no completion is ever ready. Contracts count it;
-/// that its id, ticket and task are kept is in no clause.
+/// Launched work is accepted, and nothing goes on with it yet, so no completion is ever ready. Contracts see the id
+/// of its object and its ticket; that its task is kept is in no clause.
 #[derive(Drop)]
 pub struct Estate<S: Entrusted> {
     pub(crate) config: Config,
@@ -27,7 +27,7 @@ pub struct Estate<S: Entrusted> {
 }
 
 impl<S: Entrusted> Model for Estate<S> {
-    ghost use Rattle.std.specs.Prelude.{◌+◌, ◌≤◌, length, map, All, vec_capacity};
+    ghost use Rattle.std.specs.Prelude.{◌+◌, ◌≤◌, map, All, vec_capacity};
     ghost use Rattle.tm_estate.specs.Holding.{Holding, holding_code};
 
     ghost Value = { Holding S };
@@ -39,7 +39,7 @@ impl<S: Entrusted> Model for Estate<S> {
       number = a.number;
       stock = a.objects;
       closed = a.closed.items;
-      launched = map (λ l. length l.items) a.launched.items;
+      launched = map (λ l. map (λ w. (w.id, w.ticket)) l.items) a.launched.items;
       next_ticket = a.tickets + 1;
       run = a.run;
       entries = a.entries;

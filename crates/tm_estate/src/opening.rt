@@ -1,5 +1,5 @@
 //! How a trustee begins.
-ghost use Rattle.std.specs.Prelude.{◌≡◌, ◌+◌, ◌^◌, ◌<◌, ◌≤◌, [], length, map, replicate, vec_capacity, All, IfOk, IfErr};
+ghost use Rattle.std.specs.Prelude.{◌≡◌, ℕ, ◌+◌, ◌^◌, ◌<◌, ◌≤◌, List, [], length, map, replicate, vec_capacity, All, IfOk, IfErr};
 ghost use Rattle.tm_objects.specs.Live.{holds_of, total, HasLive};
 ghost use Rattle.tm_objects.specs.Stock.{gifts_of, granted};
 ghost use Rattle.tm_estate.specs.Opened.{IsOpenable, HasOpened};
@@ -68,7 +68,7 @@ impl<S: Entrusted> Estate<S> {
 
 // No launches of some places, with room for all that each may have.
 fn no_launches<S: Entrusted>(alloc: Global, places: usize) -> Result<Vec<Vec<Work<S>>>, AllocError>
-    ensures none { IfOk result (λ launched. map (λ l. length l.items) launched.items ≡ replicate places 0) }
+    ensures none { IfOk result (λ launched. map {B = List (ℕ × ℕ)} (λ l. map (λ w. (w.id, w.ticket)) l.items) launched.items ≡ replicate places []) }
     ensures room { IfOk result (λ launched. All (λ l. 64 ≤ vec_capacity l) launched.items) }
 {
     let mut launched = Vec::with_capacity(alloc, places)?;

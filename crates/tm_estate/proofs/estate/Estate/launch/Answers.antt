@@ -1,4 +1,4 @@
-use Rattle.std.proofs.Common.{◌<◌, length, refl, arith}
+use Rattle.std.proofs.Common.{◌<◌, refl, arith}
 use Rattle.tm_objects.specs.Live.{total}
 use Rattle.tm_estate.proofs.RowsKeep.{asked_as}
 use Rattle.tm_estate.proofs.RowsLive.{held_at, of_live}
@@ -17,6 +17,6 @@ pub returns-clause-served : goal.returns-clause-served
 returns-clause-served g c = λ opening s asked.
     let a = asked_as c.self.view_is asked in
     launch_row g.S.Entrusted.kind opening s c.args.place _ c.args.name c.args.task a c.begin.new.self _ (omega (arith, c.if-self.false)) c.begin.ensures
-    (one_more (λ l. length l.items) c.self.inside.launched.items c.args.place c.index_mut.result.now c.push_reserved.new.self
+    (one_more (λ w. (w.id, w.ticket)) (λ l. l.items) c.self.inside.launched.items c.args.place c.index_mut.result.now c.push_reserved.new.self _
     (asker_counted g.S.Entrusted.kind opening s c.args.place _ c.args.name c.args.task a) c.index_mut.ensures.value
-    (longer c.index_mut.result.now.items c.push_reserved.new.self.items _ c.push_reserved.ensures.items))
+    (longer (λ w. (w.id, w.ticket)) c.index_mut.result.now.items c.push_reserved.new.self.items _ c.push_reserved.ensures.items))
