@@ -1,7 +1,7 @@
 -- Sessions that gave up.
 use Rattle.std.proofs.Common.{◌≡◌, ◌∙◌, ℕ, List, [], ◌∷◌, Option, Result, Ok, Err, arith}
 use Rattle.std.specs.Prelude.{OnErr}
-use Rattle.tm_base.specs.Told.{Grows}
+use Rattle.tm_base.specs.Visible.{Grows}
 use Rattle.mc_session.specs.Session.{Serving, GaveUp}
 
 -- an outcome in which the bytes that are still to be written stay, after a reading

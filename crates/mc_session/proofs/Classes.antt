@@ -4,7 +4,7 @@ use Rattle.std.specs.List.{range_with_len}
 use Rattle.std.proofs.lemmas.List.{length-map, length-take, drop_more, map_more, get_or_at, set_at}
 use Rattle.std.proofs.lemmas.List.FromFn.{map-range_with_len_more}
 use Rattle.mc_model.specs.Class.{Class, new_class}
-use Rattle.mc_classes.specs.Classes.{class_at, with_class, first_changed}
+use Rattle.mc_laws.specs.Classes.{class_at, with_class, first_changed}
 
 -- one class more at first
 pub one_new_more : (shards new : List Class) (shard : Class) (n : ℕ) → shards ≡ map (λ class. new_class class 0) (range_with_len 0 n) → shard ≡ new_class n 0 → new ≡ shards ++ shard ∷ [] → new ≡ map (λ class. new_class class 0) (range_with_len 0 (n + 1))

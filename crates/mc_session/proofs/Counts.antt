@@ -9,8 +9,8 @@ use Rattle.mc_model.specs.declared.reply.ShardReply.TheVariants.{NoMemory, Count
 use Rattle.mc_model.specs.Items.{count_of}
 use Rattle.mc_model.specs.Class.{Class, settled}
 use Rattle.mc_shard.specs.declared.op.ShardOp.TheVariants.{Count}
-use Rattle.mc_classes.specs.Classes.{class_at, with_class, first_changed, sum_of, held_by, stored_by}
-use Rattle.mc_classes.specs.Replies.{AreCounted}
+use Rattle.mc_laws.specs.Classes.{class_at, with_class, first_changed, sum_of, held_by, stored_by}
+use Rattle.mc_laws.specs.Replies.{AreCounted}
 use Rattle.mc_session.specs.Asking.{IsAsked, counts_of}
 use Rattle.mc_session.proofs.Classes.{one_changed_more, first_length}
 

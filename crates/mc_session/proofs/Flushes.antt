@@ -5,7 +5,7 @@ use Rattle.mc_model.specs.declared.reply.ShardReply.TheVariants.{NoMemory, Flush
 use Rattle.mc_model.specs.Class.{Class, flush_step}
 use Rattle.mc_model.specs.Showing.{is_no_memory}
 use Rattle.mc_shard.specs.declared.op.ShardOp.TheVariants.{Flush}
-use Rattle.mc_classes.specs.Classes.{class_at, with_class, first_changed}
+use Rattle.mc_laws.specs.Classes.{class_at, with_class, first_changed}
 use Rattle.mc_session.specs.Asking.{IsAsked}
 use Rattle.mc_session.proofs.Classes.{one_changed_more, first_length}
 

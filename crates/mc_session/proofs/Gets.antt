@@ -14,7 +14,7 @@ use Rattle.mc_model.specs.Rows.{Get, get_outcome}
 use Rattle.mc_model.specs.Class.{Class}
 use Rattle.mc_model.specs.Plain.{Part}
 use Rattle.mc_model.specs.Showing.{is_no_memory, items_of, all_items_of}
-use Rattle.mc_classes.specs.Replies.{IsClassPart, AreClassParts}
+use Rattle.mc_laws.specs.Replies.{IsClassPart, AreClassParts}
 use Rattle.mc_session.specs.Answers.{IsAnswer, found_of}
 use Rattle.mc_session.proofs.Replies.{lacks_one}
 

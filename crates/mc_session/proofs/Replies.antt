@@ -12,7 +12,7 @@ use Rattle.mc_model.specs.Rows.{Store, Change, Touch, Delete}
 use Rattle.mc_model.specs.Class.{Class}
 use Rattle.mc_model.specs.Plain.{Part}
 use Rattle.mc_model.specs.Showing.{is_no_memory, store_says, delete_says, change_shows, touch_says, flush_says, stats_shows}
-use Rattle.mc_classes.specs.Replies.{IsClassPart, AreClassParts, AreFlushed, AreCounted}
+use Rattle.mc_laws.specs.Replies.{IsClassPart, AreClassParts, AreFlushed, AreCounted}
 use Rattle.mc_session.specs.Answers.{IsAnswer, one_shown}
 
 or_false : (b : Bool) → (b || false) ≡ b

@@ -9,7 +9,7 @@ use Rattle.mc_model.specs.declared.shown.Shown.TheVariants.{Nothing, Line}
 use Rattle.mc_model.specs.declared.shown.ShownItem.{ShownItem}
 use Rattle.mc_model.specs.Class.{Class}
 use Rattle.mc_model.specs.Showing.{is_no_memory, shown_of}
-use Rattle.mc_classes.specs.Replies.{ClassesReply}
+use Rattle.mc_laws.specs.Replies.{ClassesReply}
 
 -- what a command shows that had one reply: nothing where it is quiet, and else where memory was wanting, that alone
 abbrev pub one_shown : Bool → (ShardReply → Shown) → ShardReply → Shown

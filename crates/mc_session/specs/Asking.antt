@@ -3,7 +3,7 @@ use Rattle.std.specs.Prelude.{◌≡◌, ℕ, ◌⊎◌, List, Option, Some, Non
 use Rattle.mc_model.specs.declared.reply.ShardReply.{ShardReply}
 use Rattle.mc_model.specs.declared.reply.ShardReply.TheVariants.{Counts, NoMemory}
 use Rattle.mc_model.specs.Class.{Class}
-use Rattle.mc_classes.specs.Classes.{class_at, with_class}
+use Rattle.mc_laws.specs.Classes.{class_at, with_class}
 use Rattle.mc_shard.specs.declared.op.ShardOp.{ShardOp}
 use Rattle.mc_shard.specs.Shard.{shard_step}
 

@@ -1,7 +1,7 @@
 -- What a session has, and what it makes of a message.
 use Rattle.std.specs.Prelude.{◌≡◌, ℕ, ◌≤◌, List, [], ◌∷◌, ◌++◌, length, Option, refl}
 use Rattle.std.specs.Coded.{Coded, code_by, coded×, coded_ℕ, coded_list}
-use Rattle.tm_base.specs.Told.{Grows}
+use Rattle.tm_base.specs.Visible.{Grows}
 use Rattle.mc_model.specs.declared.message.Command.{Command}
 use Rattle.mc_model.specs.declared.reply.ShardReply.{ShardReply}
 use Rattle.mc_model.specs.declared.shown.Shown.{Shown}
@@ -9,8 +9,8 @@ use Rattle.mc_model.specs.Moments.{latest}
 use Rattle.mc_model.specs.Class.{Class, class_code}
 use Rattle.mc_model.specs.Showing.{shown_of}
 use Rattle.mc_model.specs.Rendering.{bytes_of}
-use Rattle.mc_classes.specs.Classes.{new_classes}
-use Rattle.mc_classes.specs.Replies.{ClassesReply}
+use Rattle.mc_laws.specs.Classes.{new_classes}
+use Rattle.mc_laws.specs.Replies.{ClassesReply}
 
 -- the states of the 64 classes, the greatest moment so far, and the bytes that are still to be written
 pub record Serving : Type 0 where

@@ -1,6 +1,6 @@
 //! How the client asks the trustee: each operation goes through the slot.
 ghost use Rattle.std.specs.Prelude.{◌≡◌, ◌<◌, length, IfOk};
-ghost use Rattle.mc_classes.specs.Classes.{new_classes};
+ghost use Rattle.mc_laws.specs.Classes.{new_classes};
 ghost use Rattle.mc_session.specs.Asking.{IsAsked};
 
 use crate::request::Request;

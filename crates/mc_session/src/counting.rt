@@ -1,6 +1,6 @@
 //! `stats`: the sums of what each class counts.
 ghost use Rattle.std.specs.Prelude.{◌≡◌, [], ◌∷◌};
-ghost use Rattle.mc_classes.specs.Replies.{AreCounted};
+ghost use Rattle.mc_laws.specs.Replies.{AreCounted};
 ghost use Rattle.mc_session.specs.Asking.{counts_of};
 
 use crate::asking::Asking;

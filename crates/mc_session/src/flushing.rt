@@ -1,7 +1,7 @@
 //! `flush_all`: a flush of each class.
 ghost use Rattle.std.specs.Prelude.{◌≡◌, [], ◌∷◌};
 ghost use Rattle.mc_model.specs.Showing.{is_no_memory};
-ghost use Rattle.mc_classes.specs.Replies.{AreFlushed};
+ghost use Rattle.mc_laws.specs.Replies.{AreFlushed};
 
 use crate::asking::Asking;
 use mc_item::CLASSES;

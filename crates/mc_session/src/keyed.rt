@@ -1,6 +1,6 @@
 //! The operations on one key, each asked at the key's class.
 ghost use Rattle.mc_model.specs.Rows.{Store, Get, Change, Touch, Delete};
-ghost use Rattle.mc_classes.specs.Replies.{IsClassPart};
+ghost use Rattle.mc_laws.specs.Replies.{IsClassPart};
 
 use crate::asking::Asking;
 use mc_item::{Bytes, Key, class_of};

@@ -1,7 +1,7 @@
 //! A session: each command is answered, and the bytes of what it shows are gathered.
 ghost use Rattle.std.specs.Prelude.{◌≡◌, ◌↔◌, ◌≤◌, ◌++◌, ℕ, [], ◌∷◌, length, IsTrue, IfOk, OnOk, OnErr};
 ghost use Rattle.tm_base.specs.Causes.{HasCause};
-ghost use Rattle.tm_base.specs.Told.{Grows, GrowsByFront};
+ghost use Rattle.tm_base.specs.Visible.{Grows, GrowsByFront};
 ghost use Rattle.mc_model.specs.Moments.{latest};
 ghost use Rattle.mc_model.specs.Showing.{shown_of_fault};
 ghost use Rattle.mc_session.specs.Session.{first_serving, with_shown, Answered, GaveUp};

@@ -1,6 +1,6 @@
 //! The one trustee, which owns the 64 classes.
 ghost use Rattle.std.specs.Prelude.{◌≡◌, length, IfOk};
-ghost use Rattle.mc_classes.specs.Classes.{new_classes};
+ghost use Rattle.mc_laws.specs.Classes.{new_classes};
 ghost use Rattle.mc_session.specs.Slots.{IsServed};
 
 use crate::slot::Slot;

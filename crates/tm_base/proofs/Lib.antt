@@ -1,3 +1,2 @@
 pub mod Pieces
 pub mod Readings
-pub mod Walks

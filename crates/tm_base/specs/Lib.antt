@@ -2,4 +2,4 @@ pub mod Causes
 pub mod Memory
 pub mod Plan
 pub mod StdEdge
-pub mod Told
+pub mod Visible

@@ -1,6 +1,6 @@
 //! What the time is read from.
 ghost use Rattle.std.specs.Prelude.{ℕ, List, [], ◌∷◌, Option};
-ghost use Rattle.tm_base.specs.Told.{Grows};
+ghost use Rattle.tm_base.specs.Visible.{Grows};
 
 /// What the time is read from.
 pub trait Clock {

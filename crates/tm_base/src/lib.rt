@@ -18,7 +18,6 @@ mod source;
 mod std_sink;
 mod std_source;
 mod system_clock;
-mod told;
 mod writing;
 
 pub use clock::Clock;
@@ -34,7 +33,6 @@ pub use source::Source;
 pub use std_sink::StdSink;
 pub use std_source::StdSource;
 pub use system_clock::SystemClock;
-pub use told::{Items, Told};
 pub use writing::write_all;
 
 #[cfg(test)]

@@ -1,10 +1,10 @@
 //! A clock in memory.
 ghost use Rattle.std.specs.Prelude.{◌≡◌, [], ◌∷◌, ◌++◌, Some};
-ghost use Rattle.tm_base.specs.Told.{Grows};
+ghost use Rattle.tm_base.specs.Visible.{Grows};
 ghost use Rattle.tm_base.specs.Memory.{next_reading, after_reading};
 
 use crate::clock::Clock;
-use crate::told::{Items, Told};
+use tm_ghost::{GhostList, Items};
 use std::marker::{Brand, Model};
 
 /// A clock that gives readings from memory, and repeats the last one.
@@ -14,7 +14,7 @@ pub struct MemClock {
     // How many readings were given.
     at: usize,
     last: u64,
-    so_far: Told<u64>,
+    so_far: GhostList<u64>,
 }
 
 impl Model for MemClock {
@@ -38,7 +38,7 @@ impl MemClock {
             readings,
             at: 0,
             last: 0,
-            so_far: Told::new(),
+            so_far: GhostList::new(),
         }
     }
 }
@@ -70,15 +70,15 @@ fn first_or(coming: &[u64], last: u64) -> u64
 }
 
 // The list with one reading more.
-fn longer(old: &Told<u64>, reading: u64) -> Told<u64>
+fn longer(old: &GhostList<u64>, reading: u64) -> GhostList<u64>
     ensures { result.items ≡ old.now.items ++ reading ∷ [] }
 {
     pick::<Brand>(old, reading)
 }
 
 // The list that the caller's proof picks, from these values.
-fn pick<E: Items<u64>>(_old: &Told<u64>, _reading: u64) -> Told<u64>
+fn pick<E: Items<u64>>(_old: &GhostList<u64>, _reading: u64) -> GhostList<u64>
     ensures { result.items ≡ E.items }
 {
-    Told::of::<E>()
+    GhostList::of::<E>()
 }

@@ -1,7 +1,7 @@
 //! A sink in memory.
 ghost use Rattle.std.specs.Prelude.{◌≡◌, ◌⊎◌, ℕ, ◌<◌, ◌≤◌, ◌++◌, [], Some, length, take, Contains, IsErr, IfOk, OnOk, OnErr};
 ghost use Rattle.tm_base.specs.Causes.{HasCause};
-ghost use Rattle.tm_base.specs.Told.{Stays, Grows};
+ghost use Rattle.tm_base.specs.Visible.{Stays, Grows};
 ghost use Rattle.tm_base.specs.Memory.{taken_by, after_write, after_failure, after_lack};
 
 use crate::failed::Failed;

@@ -1,7 +1,7 @@
 //! A source in memory.
 ghost use Rattle.std.specs.Prelude.{◌≡◌, ◌↔◌, ℕ, ◌<◌, ◌≤◌, ◌++◌, Some, length, take, drop, Contains, IsErr, IfOk, OnOk, OnErr};
 ghost use Rattle.tm_base.specs.Causes.{HasCause};
-ghost use Rattle.tm_base.specs.Told.{Stays, Gives, IsEmptyWhereTold};
+ghost use Rattle.tm_base.specs.Visible.{Stays, Gives, IsEmptyWhereTold};
 ghost use Rattle.tm_base.specs.Plan.{after_call, after_fault};
 ghost use Rattle.tm_base.specs.Memory.{given_by, within_cut, after_read};
 

@@ -1,7 +1,7 @@
 //! What bytes are written to.
 ghost use Rattle.std.specs.Prelude.{◌≡◌, ℕ, ◌<◌, ◌≤◌, List, length, take, Option, IfOk, OnOk, OnErr};
 ghost use Rattle.tm_base.specs.Causes.{HasCause};
-ghost use Rattle.tm_base.specs.Told.{Stays, Grows};
+ghost use Rattle.tm_base.specs.Visible.{Stays, Grows};
 
 use crate::failed::Failed;
 

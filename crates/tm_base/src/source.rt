@@ -1,7 +1,7 @@
 //! What bytes are read from.
 ghost use Rattle.std.specs.Prelude.{◌≡◌, ℕ, ◌<◌, ◌≤◌, List, length, Option, IfOk, OnOk, OnErr};
 ghost use Rattle.tm_base.specs.Causes.{HasCause};
-ghost use Rattle.tm_base.specs.Told.{Stays, Gives, IsEmptyWhereTold};
+ghost use Rattle.tm_base.specs.Visible.{Stays, Gives, IsEmptyWhereTold};
 
 use crate::failed::Failed;
 

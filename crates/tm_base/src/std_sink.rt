@@ -1,7 +1,7 @@
 //! A sink over any writer of std.
 ghost use Rattle.std.specs.Prelude.{◌≡◌, ℕ, ◌<◌, ◌≤◌, length, take, IfOk, OnOk, OnErr, IfSome, IfNone};
 ghost use Rattle.tm_base.specs.Causes.{HasCause, one_fault_more};
-ghost use Rattle.tm_base.specs.Told.{Stays, Grows};
+ghost use Rattle.tm_base.specs.Visible.{Stays, Grows};
 
 use crate::failed::Failed;
 use crate::sink::Sink;

@@ -1,7 +1,7 @@
 //! A source over any reader of std.
 ghost use Rattle.std.specs.Prelude.{◌≡◌, ℕ, ◌<◌, ◌≤◌, length, IfOk, OnOk, OnErr, IfSome, IfNone};
 ghost use Rattle.tm_base.specs.Causes.{HasCause, one_fault_more};
-ghost use Rattle.tm_base.specs.Told.{Stays, Gives, IsEmptyWhereTold};
+ghost use Rattle.tm_base.specs.Visible.{Stays, Gives, IsEmptyWhereTold};
 
 use crate::failed::Failed;
 use crate::source::Source;

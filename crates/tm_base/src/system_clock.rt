@@ -1,6 +1,6 @@
 //! The system's clock.
 ghost use Rattle.std.specs.Prelude.{◌≡◌, [], ◌∷◌, None};
-ghost use Rattle.tm_base.specs.Told.{Grows};
+ghost use Rattle.tm_base.specs.Visible.{Grows};
 
 use crate::clock::Clock;
 use std::rt;

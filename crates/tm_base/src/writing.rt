@@ -1,7 +1,7 @@
 //! Writing a whole piece.
 ghost use Rattle.std.specs.Prelude.{◌≡◌, OnOk, OnErr};
 ghost use Rattle.tm_base.specs.Causes.{HasCause};
-ghost use Rattle.tm_base.specs.Told.{Grows, GrowsByFront};
+ghost use Rattle.tm_base.specs.Visible.{Grows, GrowsByFront};
 
 use crate::failed::Failed;
 use crate::sink::Sink;

@@ -6,13 +6,18 @@
 
 mod batch;
 mod config;
+mod fits;
+mod limits;
 mod message;
-mod small;
 
 pub use batch::{Batch, Room};
 pub use config::{Config, First, Holders};
+pub use fits::FitsAnswers;
+pub use limits::{
+    FEWEST_TRUSTEES, MOST_CLIENTS, MOST_COMPLETIONS, MOST_GIFTS, MOST_HOLDS, MOST_OBJECTS,
+    MOST_REQUESTS, MOST_ROOM, MOST_TRUSTEES, MOST_TRUSTS, WINDOW,
+};
 pub use message::{Answer, AnswerBatch, Completion, Name, Refusal, Request};
-pub use small::Small;
 
 #[cfg(test)]
 mod tests;

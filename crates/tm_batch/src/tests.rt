@@ -3,13 +3,13 @@ ghost use Rattle.std.specs.Prelude.{◌≡◌, []};
 
 use crate::batch::Batch;
 use crate::config::{First, Holders};
+use crate::fits::FitsAnswers;
 use crate::message::{Answer, AnswerBatch, Completion, Name, Request};
-use crate::small::Small;
 use std::test::Fail;
 use tm_seq::{Counter, CounterOp, CounterReply};
 
 /// An answer batch of any small kind.
-fn empty_answers<S: Small>(front: u64) -> AnswerBatch<S>
+fn empty_answers<S: FitsAnswers>(front: u64) -> AnswerBatch<S>
     ensures answers { result.answers.items ≡ [] }
     ensures gifts { result.gifts.items ≡ [] }
     ensures completions { result.completions.items ≡ [] }

@@ -27,7 +27,7 @@ use Rattle.tm_model.specs.Entries.{entries_by, AreResumes}
 use Rattle.tm_model.specs.Holds.{Names, has_bye, answers_in, launches_in, gave, ended_in, came}
 use Rattle.tm_model.specs.Orderly.{IsOrderly}
 use Rattle.tm_model.specs.Good.{FullBox, FullSlot, FullCore, unserved, got_with, IsOutInOrder, IsGood}
-use Rattle.tm_model.specs.Laws.{IsOpening, IsTold, BatchesAreTold, HeldAreLive}
+use Rattle.tm_model.specs.Laws.{IsOpening, IsPromised, BatchesArePromised, HeldAreLive}
 use Rattle.tm_model.proofs.Byes.{not_in_none, bye_names}
 use Rattle.tm_core.proofs.Every.{found}
 use Rattle.tm_core.proofs.Tallies.{came_more, came_same, bye_in, gave-append, launches_in-append, bye_more}
@@ -197,7 +197,7 @@ module _ {V O R T : Type 0} where
           omega (arith, had, came_all, given, own, more, split_before),
         )
 
-    told : IsTold kind opening core.log c b
+    told : IsPromised kind opening core.log c b
     told = record {
       held = λ resumes answers before after q id parts names only many legal.
           let n = place_count opening.setup in
@@ -239,8 +239,8 @@ module _ {V O R T : Type 0} where
       last = orderly.last;
     }
 
-  pub batches_are_told : (kind : Kind V O R T) → BatchesAreTold kind
-  batches_are_told kind opening core c b room is good lt =
+  pub batches_are_promised : (kind : Kind V O R T) → BatchesArePromised kind
+  batches_are_promised kind opening core c b room is good lt =
       let slot = slot_of core c in
       let was = good.accounts c lt in
       let place = good.slots.slots c lt in (

@@ -8,7 +8,7 @@ use crate::cell::Cell;
 use crate::step::Step;
 use std::alloc::{AllocError, Global};
 use std::marker::Brand;
-use tm_base::{Items, Told};
+use tm_ghost::{GhostList, Items};
 
 /// So many places at first.
 pub(crate) fn new_cells(alloc: Global, places: u32) -> Result<Vec<Cell>, AllocError>
@@ -130,15 +130,15 @@ fn collect(cells: &mut [Cell], client: u32)
 }
 
 /// The steps so far, with one more.
-pub(crate) fn records(past: &Told<Step>, step: &Step) -> Told<Step>
+pub(crate) fn records(past: &GhostList<Step>, step: &Step) -> GhostList<Step>
     ensures { result.items ≡ past.now.items ++ step.now ∷ [] }
 {
     pick::<Brand>(past, step)
 }
 
 // The list that the caller's proof picks, from these values.
-fn pick<E: Items<Step>>(_past: &Told<Step>, _step: &Step) -> Told<Step>
+fn pick<E: Items<Step>>(_past: &GhostList<Step>, _step: &Step) -> GhostList<Step>
     ensures { result.items ≡ E.items }
 {
-    Told::of::<E>()
+    GhostList::of::<E>()
 }

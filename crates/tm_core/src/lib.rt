@@ -18,7 +18,7 @@ pub use laws::{
     see_keeps_slots, steps_keep_slots,
 };
 pub use log_laws::{
-    batches_are_told, completions_are_of_launches, held_are_live, histories_tell_values,
+    batches_are_promised, completions_are_of_launches, held_are_live, histories_tell_values,
     ids_never_return, launches_are_latched, longer_logs_add, reclaims_are_of_histories,
     replies_are_of_histories, resumes_are_of_histories, seen_logs_agree, states_are_sound,
 };

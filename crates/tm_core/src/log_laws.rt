@@ -1,7 +1,7 @@
 //! What holds of all legal logs of a trustee and of the states that they leave, for every kind of object.
 //!
 //! Nothing here runs: each function states a law.
-ghost use Rattle.tm_model.specs.Laws.{StatesAreSound, HistoriesTellValues, LaunchesAreLatched, BatchesAreTold, LongerLogsAdd, IdsNeverReturn, CompletionsAreOfLaunches, RepliesAreOfHistories, ResumesAreOfHistories, ReclaimsAreOfHistories, HeldAreLive, SeenLogsAgree};
+ghost use Rattle.tm_model.specs.Laws.{StatesAreSound, HistoriesTellValues, LaunchesAreLatched, BatchesArePromised, LongerLogsAdd, IdsNeverReturn, CompletionsAreOfLaunches, RepliesAreOfHistories, ResumesAreOfHistories, ReclaimsAreOfHistories, HeldAreLive, SeenLogsAgree};
 
 use tm_seq::Entrusted;
 
@@ -28,8 +28,8 @@ pub fn launches_are_latched<S: Entrusted>()
 /// its earlier requests: each id that a request names is live and held by its place; unfinished
 /// launches, ready completions and launches of the batch are together at most 64; a Bye stands
 /// alone, and nothing follows one.
-pub fn batches_are_told<S: Entrusted>()
-    ensures { BatchesAreTold S.kind }
+pub fn batches_are_promised<S: Entrusted>()
+    ensures { BatchesArePromised S.kind }
 {}
 
 /// A longer log only adds: what ran for a place, its answers and its answer batches go on.

@@ -9,14 +9,14 @@ use crate::cells::{allows, go, new_cells, records};
 use crate::step::{Step, StepRefused};
 use std::alloc::{AllocError, Global};
 use std::marker::Model;
-use tm_base::Told;
+use tm_ghost::GhostList;
 
 /// The slots between some clients and a trustee. Contracts see them with the log, and with what each side has got
 /// and seen.
 #[derive(Drop)]
 pub struct Core {
     cells: Vec<Cell>,
-    past: Told<Step>,
+    past: GhostList<Step>,
 }
 
 impl Model for Core {
@@ -44,7 +44,7 @@ impl Core {
         let cells = new_cells(alloc, places)?;
         Ok(Core {
             cells,
-            past: Told::new(),
+            past: GhostList::new(),
         })
     }
 

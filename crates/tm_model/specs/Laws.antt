@@ -195,7 +195,7 @@ module _ {V O R T : Type 0} where
         → c < length core.slots → IsGood kind opening core → IsGood kind opening (collect c core)
 
     -- what is known of a batch of place c that was asked and not yet run, behind a log
-    pub record IsTold (opening : State V O R T) (log : List (Entry V O R T)) (c : ℕ) (b : List (Request V O R T)) : Type 0 where
+    pub record IsPromised (opening : State V O R T) (log : List (Entry V O R T)) (c : ℕ) (b : List (Request V O R T)) : Type 0 where
       -- whatever is resumed and answered first, each id that a request names is live then and held by c
       pub held : (resumes : List (Entry V O R T)) (answers : List (Answer V O R T))
           (before after : List (Request V O R T)) (q : Request V O R T) (id : ℕ)
@@ -210,12 +210,12 @@ module _ {V O R T : Type 0} where
       pub last : has_bye (ran c log) ≡ true → b ≡ []
 
     -- a good core tells this of each batch that is asked or taken
-    abbrev pub BatchesAreTold : Type 0
-    BatchesAreTold =
+    abbrev pub BatchesArePromised : Type 0
+    BatchesArePromised =
         (opening : State V O R T) (core : FullCore V O R T) (c : ℕ) (b : List (Request V O R T)) (room : ℕ)
         → IsOpening opening → IsGood kind opening core → c < length core.slots
-        → ((slot_of core c).box ≡ Asked b room → IsTold opening core.log c b)
-        × ((slot_of core c).box ≡ Taken b room → IsTold opening core.log c b)
+        → ((slot_of core c).box ≡ Asked b room → IsPromised opening core.log c b)
+        × ((slot_of core c).box ≡ Taken b room → IsPromised opening core.log c b)
 
     -- an id that a place holds by what it sent and got, before its Bye, is live and held by it
     abbrev pub HeldAreLive : Type 0

@@ -17,7 +17,7 @@ use Rattle.tm_model.specs.Slots.{Empty, Asked, Taken, Answered, no_slot, slot_of
 use Rattle.tm_model.specs.Good.{FullBox, FullSlot, FullCore, IsOutInOrder}
 use Rattle.tm_model.specs.Entries.{added}
 use Rattle.tm_model.specs.Answering.{answer_with}
-use Rattle.tm_model.specs.Laws.{IsTold}
+use Rattle.tm_model.specs.Laws.{IsPromised}
 use Rattle.tm_pair.specs.Views.{Hand, hand_of, looks_at}
 use Rattle.tm_pair.specs.Calls.{Publishes, Collects, SeesNothing, Takes, HasAnswered}
 use Rattle.tm_pair.specs.Stands.{room_out, hand_in, client_of, trustee_of}
@@ -192,7 +192,7 @@ module _ {V O R T : Type 0} where
   sees_by :
       (kind : Kind V O R T) (opening : State V O R T) (core : FullCore V O R T) (c : ℕ) (content new : Content V O R T) (given : Option (Batch V O R T))
       (box : FullBox V O R T) → (slot_of core c).box ≡ box → ShowsBox content box → Gave content new given
-      → ((b : List (Request V O R T)) (room : ℕ) → (slot_of core c).box ≡ Asked b room → IsTold kind opening core.log c b)
+      → ((b : List (Request V O R T)) (room : ℕ) → (slot_of core c).box ≡ Asked b room → IsPromised kind opening core.log c b)
       → MatchOption given (SeesNothing c (trustee_of core) (trustee_of (see c core)))
       (λ b. Takes kind opening c b.requests.items b.room (trustee_of core) (trustee_of (see c core)))
   sees_by kind opening core c Free new given Empty at shows gave told =
@@ -232,7 +232,7 @@ module _ {V O R T : Type 0} where
   pub sees :
       (kind : Kind V O R T) (opening : State V O R T) (core : FullCore V O R T) (c : ℕ) (content new : Content V O R T) (given : Option (Batch V O R T))
       → ShowsBox content (slot_of core c).box → Gave content new given
-      → ((b : List (Request V O R T)) (room : ℕ) → (slot_of core c).box ≡ Asked b room → IsTold kind opening core.log c b)
+      → ((b : List (Request V O R T)) (room : ℕ) → (slot_of core c).box ≡ Asked b room → IsPromised kind opening core.log c b)
       → MatchOption given (SeesNothing c (trustee_of core) (trustee_of (see c core)))
       (λ b. Takes kind opening c b.requests.items b.room (trustee_of core) (trustee_of (see c core)))
   sees kind opening core c content new given shows gave told = sees_by kind opening core c content new given (slot_of core c).box refl shows gave told

@@ -5,7 +5,7 @@ use Rattle.std.specs.Vec.{with_item}
 use Rattle.std.specs.declared.option.Option.{Option}
 use Rattle.std.specs.declared.option.Option.TheVariants.{None, Some}
 use Rattle.std.proofs.lemmas.Bool.{cases_eq}
-use Rattle.tm_base.specs.declared.told.Told.{Told}
+use Rattle.tm_ghost.specs.declared.list.GhostList.{GhostList}
 use Rattle.tm_seq.specs.Kind.{Kind}
 use Rattle.tm_batch.specs.declared.batch.Batch.{Batch}
 use Rattle.tm_batch.specs.declared.message.Request.{Request}
@@ -221,7 +221,7 @@ module _ {V O R T : Type 0} where
 
     -- a table after a call
     pub next_table :
-        (i : ℕ) (new : Place V O R T) (past : Told (Move V O R T)) (core : FullCore V O R T) → core_after past.items ≡ core
+        (i : ℕ) (new : Place V O R T) (past : GhostList (Move V O R T)) (core : FullCore V O R T) → core_after past.items ≡ core
         → IsGood kind (opening_at table) core → ShowsCore (slice_set table.places.items i new) core
         → IsTable kind (record table { places = with_item table.places i new; past = past })
     next_table i new past core e good shows = record {

@@ -11,7 +11,7 @@ use Rattle.tm_model.specs.Ran.{ran}
 use Rattle.tm_model.specs.Entries.{batch_entries, added}
 use Rattle.tm_model.specs.Orderly.{IsOrderly}
 use Rattle.tm_model.specs.Answering.{MayGrow}
-use Rattle.tm_model.specs.Laws.{IsTold}
+use Rattle.tm_model.specs.Laws.{IsPromised}
 use Rattle.tm_pair.specs.Views.{ClientView, TrusteeView, hand_of, looks_at}
 use Rattle.tm_pair.specs.declared.table.Collected.{Collected}
 use Rattle.tm_pair.specs.declared.table.Collected.TheVariants.{Answers, Pending, Idle}
@@ -94,7 +94,7 @@ module _ {V O R T : Type 0} where
     pub log : new.log ≡ old.log
     pub hands : new.hands ≡ slice_set old.hands c (Some (record { requests = b; room = room }))
     pub looks : LooksAt c true old new
-    pub told : IsTold kind opening old.log c b
+    pub told : IsPromised kind opening old.log c b
 
   -- the batch of place c is in hand, and the log may grow by some resumes and by it, answered by a
   abbrev pub MayAnswer : Kind V O R T → State V O R T → ℕ → List (Entry V O R T) → AnswerBatch V O R T → TrusteeView V O R T → Type 0

@@ -11,7 +11,7 @@ use Rattle.tm_model.specs.GoodSlots.{IsCutAt, IsSettled}
 use Rattle.tm_model.specs.Ran.{mark_of, ran}
 use Rattle.tm_model.specs.Batches.{batches}
 use Rattle.tm_model.specs.Holds.{launches_in, gave, ended_in, came}
-use Rattle.tm_model.specs.Laws.{IsOpening, IsTold}
+use Rattle.tm_model.specs.Laws.{IsOpening, IsPromised}
 use Rattle.tm_pair.specs.Views.{ClientView, Hand, TrusteeView, hand_of}
 
 module _ {V O R T : Type 0} where
@@ -40,7 +40,7 @@ module _ {V O R T : Type 0} where
   pub record IsGoodHand (kind : Kind V O R T) (opening : State V O R T) (log : List (Entry V O R T)) (c : ℕ) (hand : Hand V O R T) : Type 0 where
     pub most : length hand.requests ≤ 16
     pub most_gifts : hand.room ≤ 16
-    pub told : IsTold kind opening log c hand.requests
+    pub told : IsPromised kind opening log c hand.requests
 
   -- the trustee's side of a table that opened in this state
   pub record IsGoodTrustee (kind : Kind V O R T) (opening : State V O R T) (view : TrusteeView V O R T) : Type 0 where

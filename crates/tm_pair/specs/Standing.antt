@@ -14,7 +14,7 @@ use Rattle.tm_model.specs.Good.{FullBox, FullSlot, FullCore, IsGood, IsOutInOrde
 use Rattle.tm_model.specs.Ran.{mark_of, ran}
 use Rattle.tm_model.specs.Batches.{batches}
 use Rattle.tm_model.specs.Laws.{IsOpening}
-use Rattle.tm_core.proofs.Promised.{batches_are_told}
+use Rattle.tm_core.proofs.Promised.{batches_are_promised}
 use Rattle.tm_pair.specs.Views.{Hand, hand_of}
 use Rattle.tm_pair.specs.Sides.{HasRun, IsGoodClient, IsGoodHand, IsGoodTrustee}
 use Rattle.tm_pair.specs.Stands.{room_out, hand_in, client_of, trustee_of}
@@ -80,7 +80,7 @@ module _ {V O R T : Type 0} (kind : Kind V O R T) (opening : State V O R T) wher
       let lt = hand_in_range core c hand is in
       let taken = is_in_hand (slot_of core c).box hand is in
       let out = subst (λ (box : FullBox V O R T). IsOutInOrder opening c box (slot_of core c) core.log) taken (good.accounts c lt).out in
-      record { most = out.1; most_gifts = out.2; told = (batches_are_told kind opening core c hand.requests hand.room opens good lt).1 taken }
+      record { most = out.1; most_gifts = out.2; told = (batches_are_promised kind opening core c hand.requests hand.room opens good lt).1 taken }
 
   pub trustee_good : (core : FullCore V O R T) → IsOpening opening → IsGood kind opening core → IsGoodTrustee kind opening (trustee_of core)
   trustee_good core opens good = record {

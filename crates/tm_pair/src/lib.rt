@@ -5,18 +5,18 @@
 //! of an empty batch, through any table.
 #![tactic(auto)]
 
+mod fits_batches;
+mod fits_table;
 mod moves;
 mod opened;
 mod place;
-mod placed;
 mod plain;
 mod round;
-mod small_batch;
 mod table;
 
+pub use fits_batches::FitsBatches;
+pub use fits_table::FitsTable;
 pub use moves::Move;
-pub use placed::Placed;
 pub use plain::{PlainClient, PlainTable, PlainTrustee};
 pub use round::{answer_nothing, ask_nothing, once_round};
-pub use small_batch::SmallBatch;
 pub use table::{Collected, Held, PairTable, Since};

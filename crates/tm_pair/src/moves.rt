@@ -5,8 +5,8 @@ ghost use Rattle.tm_pair.specs.Moves.{answer_of};
 
 use crate::table::Since;
 use std::marker::Brand;
-use tm_base::{Items, Told};
 use tm_batch::{AnswerBatch, Batch};
+use tm_ghost::{GhostList, Items};
 use tm_model::Entry;
 use tm_seq::Entrusted;
 
@@ -20,7 +20,7 @@ pub enum Move<S: Entrusted> {
     /// The trustee looked at a place.
     See(u32),
     /// The trustee answered a place, after some resumes.
-    Answer(u32, Told<Entry<S>>, AnswerBatch<S>),
+    Answer(u32, GhostList<Entry<S>>, AnswerBatch<S>),
     /// A place looked for answers.
     Collect(u32),
 }
@@ -34,89 +34,92 @@ pub(crate) fn is_bounded<S: Entrusted>(batch: &Batch<S>)
 }
 
 /// The same moves.
-pub(crate) fn again<S: Entrusted>(past: &Told<Move<S>>) -> Told<Move<S>>
+pub(crate) fn again<S: Entrusted>(past: &GhostList<Move<S>>) -> GhostList<Move<S>>
     ensures { result.items ≡ past.now.items }
 {
     pick_past::<S, Brand>(past)
 }
 
-fn pick_past<S: Entrusted, E: Items<Move<S>>>(_past: &Told<Move<S>>) -> Told<Move<S>>
+fn pick_past<S: Entrusted, E: Items<Move<S>>>(_past: &GhostList<Move<S>>) -> GhostList<Move<S>>
     ensures { result.items ≡ E.items }
 {
-    Told::of::<E>()
+    GhostList::of::<E>()
 }
 
 /// A table of so many places was made, and nothing else was done.
-pub(crate) fn opened<S: Entrusted>(places: u32) -> Told<Move<S>>
+pub(crate) fn opened<S: Entrusted>(places: u32) -> GhostList<Move<S>>
     ensures { result.items ≡ Open places ∷ [] }
 {
     pick_open::<S, Brand>(places)
 }
 
-fn pick_open<S: Entrusted, E: Items<Move<S>>>(_places: u32) -> Told<Move<S>>
+fn pick_open<S: Entrusted, E: Items<Move<S>>>(_places: u32) -> GhostList<Move<S>>
     ensures { result.items ≡ E.items }
 {
-    Told::of::<E>()
+    GhostList::of::<E>()
 }
 
 /// Then a place published a batch.
 pub(crate) fn published<S: Entrusted>(
-    past: &Told<Move<S>>,
+    past: &GhostList<Move<S>>,
     place: u32,
     batch: &Batch<S>,
-) -> Told<Move<S>>
+) -> GhostList<Move<S>>
     ensures { result.items ≡ past.now.items ++ Publish place batch.now ∷ [] }
 {
     pick_publish::<S, Brand>(past, place, batch)
 }
 
 fn pick_publish<S: Entrusted, E: Items<Move<S>>>(
-    _past: &Told<Move<S>>,
+    _past: &GhostList<Move<S>>,
     _place: u32,
     _batch: &Batch<S>,
-) -> Told<Move<S>>
+) -> GhostList<Move<S>>
     ensures { result.items ≡ E.items }
 {
-    Told::of::<E>()
+    GhostList::of::<E>()
 }
 
 /// Then the trustee looked at a place.
-pub(crate) fn seen<S: Entrusted>(past: &Told<Move<S>>, place: u32) -> Told<Move<S>>
+pub(crate) fn seen<S: Entrusted>(past: &GhostList<Move<S>>, place: u32) -> GhostList<Move<S>>
     ensures { result.items ≡ past.now.items ++ See place ∷ [] }
 {
     pick_place::<S, Brand>(past, place)
 }
 
 /// Then a place looked for answers.
-pub(crate) fn collected<S: Entrusted>(past: &Told<Move<S>>, place: u32) -> Told<Move<S>>
+pub(crate) fn collected<S: Entrusted>(past: &GhostList<Move<S>>, place: u32) -> GhostList<Move<S>>
     ensures { result.items ≡ past.now.items ++ Collect place ∷ [] }
 {
     pick_place::<S, Brand>(past, place)
 }
 
-fn pick_place<S: Entrusted, E: Items<Move<S>>>(_past: &Told<Move<S>>, _place: u32) -> Told<Move<S>>
+fn pick_place<S: Entrusted, E: Items<Move<S>>>(
+    _past: &GhostList<Move<S>>,
+    _place: u32,
+) -> GhostList<Move<S>>
     ensures { result.items ≡ E.items }
 {
-    Told::of::<E>()
+    GhostList::of::<E>()
 }
 
 /// Then the trustee answered a place, after the resumes that the caller's proof picks.
 pub(crate) fn answered<S: Entrusted, E: Since<S, S::Op, S::Reply, S::Task>>(
-    past: &Told<Move<S>>,
+    past: &GhostList<Move<S>>,
     place: u32,
     answers: &AnswerBatch<S>,
-) -> Told<Move<S>>
+) -> GhostList<Move<S>>
     ensures { result.items ≡ past.now.items ++ answer_of place E.resumes answers.now ∷ [] }
 {
     pick_answer::<S, Brand>(past, place, answers)
 }
 
 fn pick_answer<S: Entrusted, E: Items<Move<S>>>(
-    _past: &Told<Move<S>>,
+    _past: &GhostList<Move<S>>,
     _place: u32,
     _answers: &AnswerBatch<S>,
-) -> Told<Move<S>>
+) -> GhostList<Move<S>>
     ensures { result.items ≡ E.items }
 {
-    Told::of::<E>()
+    GhostList::of::<E>()
 }

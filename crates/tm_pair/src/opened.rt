@@ -3,16 +3,16 @@ ghost use Rattle.std.specs.Prelude.{◌≡◌, ◌<◌, ◌≤◌, vec_len, IfOk
 ghost use Rattle.tm_model.specs.Opening.{IsBuildable, opening_of};
 ghost use Rattle.tm_pair.specs.Opened.{AreNewPlaces, AreNewClients, IsOpened};
 
+use crate::fits_table::FitsTable;
 use crate::moves::opened;
 use crate::place::Place;
-use crate::placed::Placed;
 use crate::plain::{PlainClient, PlainTable, PlainTrustee};
 use std::alloc::{AllocError, Global};
 use std::marker::Brand;
-use tm_base::{Items, Told};
 use tm_batch::{Config, First};
+use tm_ghost::{GhostList, Items};
 
-impl<S: Placed> PlainTable<S> {
+impl<S: FitsTable> PlainTable<S> {
     /// The table of trustee `number` of a runtime that is built from a config and a list of
     /// objects, one client's side for each of its `config.clients + number` places in order, and
     /// the trustee's side. The config and the list must be as a runtime may be built from them. A
@@ -46,7 +46,7 @@ impl<S: Placed> PlainTable<S> {
 }
 
 /// So many places at first.
-fn new_places<S: Placed>(alloc: Global, count: u32) -> Result<Vec<Place<S>>, AllocError>
+fn new_places<S: FitsTable>(alloc: Global, count: u32) -> Result<Vec<Place<S>>, AllocError>
     ensures count { IfOk result (λ places. vec_len places ≡ count) }
     ensures new { IfOk result (λ places. AreNewPlaces places.items) }
 {
@@ -58,7 +58,7 @@ fn new_places<S: Placed>(alloc: Global, count: u32) -> Result<Vec<Place<S>>, All
 }
 
 /// The clients' sides of so many places at first.
-fn new_clients<S: Placed>(alloc: Global, count: u32) -> Result<Vec<PlainClient<S>>, AllocError>
+fn new_clients<S: FitsTable>(alloc: Global, count: u32) -> Result<Vec<PlainClient<S>>, AllocError>
     ensures count { IfOk result (λ clients. vec_len clients ≡ count) }
     ensures new { IfOk result (λ clients. AreNewClients count clients.items) }
 {
@@ -73,14 +73,14 @@ fn new_clients<S: Placed>(alloc: Global, count: u32) -> Result<Vec<PlainClient<S
 }
 
 /// The list of the build, for contracts alone.
-fn told<S: Placed>(first: &Vec<First<S>>) -> Told<First<S>>
+fn told<S: FitsTable>(first: &Vec<First<S>>) -> GhostList<First<S>>
     ensures { result.items ≡ first.now.items }
 {
     pick::<S, Brand>(first)
 }
 
-fn pick<S: Placed, E: Items<First<S>>>(_first: &Vec<First<S>>) -> Told<First<S>>
+fn pick<S: FitsTable, E: Items<First<S>>>(_first: &Vec<First<S>>) -> GhostList<First<S>>
     ensures { result.items ≡ E.items }
 {
-    Told::of::<E>()
+    GhostList::of::<E>()
 }

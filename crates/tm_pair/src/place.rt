@@ -3,14 +3,14 @@ ghost use Rattle.std.specs.Prelude.{◌≡◌, ◌↔◌, false, not, IsTrue};
 ghost use Rattle.tm_pair.specs.declared.place.Content.TheVariants.{Empty, Asked, Taken, Answered};
 ghost use Rattle.tm_pair.specs.Places.{IsNewPlace, KeepsWords, Gave, Found};
 
-use crate::small_batch::SmallBatch;
+use crate::fits_batches::FitsBatches;
 use crate::table::Collected;
 use std::mem;
 use tm_batch::{AnswerBatch, Batch};
 
 /// What stands in the slot of a place.
 #[derive(Drop)]
-pub(crate) enum Content<S: SmallBatch> {
+pub(crate) enum Content<S: FitsBatches> {
     Empty,
     /// A batch that was published.
     Asked(Batch<S>),
@@ -22,13 +22,13 @@ pub(crate) enum Content<S: SmallBatch> {
 
 /// A place: its two words, and its slot.
 #[derive(Drop)]
-pub(crate) struct Place<S: SmallBatch> {
+pub(crate) struct Place<S: FitsBatches> {
     pub(crate) request_word: bool,
     pub(crate) response_word: bool,
     pub(crate) content: Content<S>,
 }
 
-impl<S: SmallBatch> Place<S> {
+impl<S: FitsBatches> Place<S> {
     /// A place at first.
     pub(crate) fn new() -> Place<S>
         ensures { IsNewPlace result }

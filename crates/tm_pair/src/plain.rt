@@ -13,26 +13,26 @@ ghost use Rattle.tm_pair.specs.declared.plain.PlainClient.{PlainClient};
 ghost use Rattle.tm_pair.specs.declared.plain.PlainTrustee.{PlainTrustee};
 ghost use Rattle.tm_pair.specs.Standing.{client_side_good, trustee_side_good};
 
+use crate::fits_table::FitsTable;
 use crate::moves::{Move, again, answered, collected, is_bounded, published, seen};
 use crate::place::Place;
-use crate::placed::Placed;
 use crate::table::{Collected, Held, PairTable, Since};
-use tm_base::Told;
 use tm_batch::{AnswerBatch, Batch, Config, First};
+use tm_ghost::GhostList;
 use tm_seq::Entrusted;
 
 /// A trustee's table in one thread. For contracts alone it keeps its number, the config and the list
 /// of the build, and what was done at it, which tells the slots and the log that it stands for.
-pub struct PlainTable<S: Placed> {
+pub struct PlainTable<S: FitsTable> {
     pub(crate) places: Vec<Place<S>>,
     pub(crate) number: u32,
     pub(crate) config: Config,
-    pub(crate) first: Told<First<S>>,
-    pub(crate) past: Told<Move<S>>,
+    pub(crate) first: GhostList<First<S>>,
+    pub(crate) past: GhostList<Move<S>>,
 }
 
 /// As a derived one, but proved here: a derived one is proved in each crate that drops a table.
-impl<S: Placed> Drop for PlainTable<S> {
+impl<S: FitsTable> Drop for PlainTable<S> {
     fn drop(self) {
         let PlainTable {
             places: _,
@@ -49,17 +49,17 @@ impl<S: Placed> Drop for PlainTable<S> {
 #[derive(Drop)]
 pub struct PlainClient<S: Entrusted> {
     pub(crate) place: u32,
-    pub(crate) past: Told<Move<S>>,
+    pub(crate) past: GhostList<Move<S>>,
 }
 
 /// The trustee's side of a [`PlainTable`]. For contracts alone it keeps what was done at the table
 /// by its last call.
 #[derive(Drop)]
 pub struct PlainTrustee<S: Entrusted> {
-    pub(crate) past: Told<Move<S>>,
+    pub(crate) past: GhostList<Move<S>>,
 }
 
-impl<S: Placed> PairTable<S> for PlainTable<S> {
+impl<S: FitsTable> PairTable<S> for PlainTable<S> {
     type ClientSide = PlainClient<S>;
 
     type TrusteeSide = PlainTrustee<S>;

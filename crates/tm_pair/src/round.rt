@@ -10,10 +10,10 @@ ghost use Rattle.tm_pair.specs.Calls.{Publishes};
 ghost use Rattle.tm_pair.specs.declared.moves.Move.TheVariants.{Publish};
 ghost use Rattle.tm_pair.specs.Rounds.{NothingWaits, AnswersNothing, AnswersFound, FindsNothing};
 
-use crate::small_batch::SmallBatch;
+use crate::fits_batches::FitsBatches;
 use crate::table::{Collected, Held, PairTable};
 use std::marker::Brand;
-use tm_batch::{AnswerBatch, Batch, Small};
+use tm_batch::{AnswerBatch, Batch, FitsAnswers};
 use tm_core::{batches_have_all_answers, batches_join, legal_logs_join, states_are_sound};
 use tm_seq::Entrusted;
 
@@ -49,7 +49,7 @@ fn is_nothing<S: Entrusted>(seen: &Option<Batch<S>>) -> bool
 }
 
 /// Answers a batch in hand that has no request, where nothing waits for its place.
-fn answer_empty<S: Small, P: PairTable<S>>(
+fn answer_empty<S: FitsAnswers, P: PairTable<S>>(
     table: &mut P,
     side: &mut P::TrusteeSide,
     client: u32,
@@ -76,7 +76,7 @@ fn answer_empty<S: Small, P: PairTable<S>>(
 /// Looks for a batch of a place for which nothing waits, and answers it if it has no request; one
 /// that has some stays in hand. `front` is the length of the log with its answer. The batch that it
 /// found, if there was one.
-pub fn answer_nothing<S: Small, P: PairTable<S>>(
+pub fn answer_nothing<S: FitsAnswers, P: PairTable<S>>(
     table: &mut P,
     side: &mut P::TrusteeSide,
     client: u32,
@@ -102,7 +102,7 @@ pub fn answer_nothing<S: Small, P: PairTable<S>>(
 }
 
 /// Asks nothing with a side that has nothing out.
-fn ask_free<S: SmallBatch, P: PairTable<S>>(table: &mut P, side: &mut P::ClientSide)
+fn ask_free<S: FitsBatches, P: PairTable<S>>(table: &mut P, side: &mut P::ClientSide)
     requires mine { P.HasClient table.old side.old }
     requires out { (P.client_view side.old).out ≡ None }
     ensures asks { Publishes [] 0 (P.client_view side.old) (P.client_view side.new) }
@@ -115,7 +115,7 @@ fn ask_free<S: SmallBatch, P: PairTable<S>>(table: &mut P, side: &mut P::ClientS
 }
 
 /// Answers as [`answer_nothing`], and lets the batch go.
-fn answer_free<S: SmallBatch, P: PairTable<S>>(
+fn answer_free<S: FitsBatches, P: PairTable<S>>(
     table: &mut P,
     side: &mut P::TrusteeSide,
     client: u32,
@@ -139,7 +139,7 @@ fn answer_free<S: SmallBatch, P: PairTable<S>>(
 /// wait for it in the trustee's log. `front` is the length of the log with its answer.
 /// Another thread may come between any two of the three calls, so the trustee may find no batch, and
 /// the client no answers yet.
-pub fn once_round<S: SmallBatch, P: PairTable<S>>(
+pub fn once_round<S: FitsBatches, P: PairTable<S>>(
     table: &mut P,
     client: &mut P::ClientSide,
     trustee: &mut P::TrusteeSide,

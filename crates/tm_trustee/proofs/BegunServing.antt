@@ -11,9 +11,9 @@ use Rattle.tm_batch.specs.declared.config.First.{First}
 use Rattle.tm_batch.specs.declared.message.Name.{Name}
 use Rattle.tm_model.specs.State.{State}
 use Rattle.tm_model.specs.Opening.{opening_of}
-use Rattle.tm_estate.specs.Holding.{Holding}
-use Rattle.tm_estate.specs.Opened.{HasOpened}
-use Rattle.tm_estate.specs.Standing.{Stands}
+use Rattle.tm_state.specs.Holding.{Holding}
+use Rattle.tm_state.specs.Opened.{HasOpened}
+use Rattle.tm_state.specs.Standing.{Stands}
 use Rattle.tm_pair.specs.Views.{ClientView, TrusteeView}
 use Rattle.tm_trustee.specs.Above.{IsAt, IsAbove}
 use Rattle.tm_trustee.specs.Standing.{IsServing}

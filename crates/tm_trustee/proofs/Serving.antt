@@ -12,9 +12,9 @@ use Rattle.tm_model.specs.State.{State, place_count}
 use Rattle.tm_model.specs.Slots.{Looks, looked}
 use Rattle.tm_model.specs.Answering.{MayGrow}
 use Rattle.tm_model.specs.Entries.{added}
-use Rattle.tm_estate.specs.Holding.{Holding}
-use Rattle.tm_estate.specs.Standing.{Stands}
-use Rattle.tm_estate.specs.Asking.{MayRunBatch}
+use Rattle.tm_state.specs.Holding.{Holding}
+use Rattle.tm_state.specs.Standing.{Stands}
+use Rattle.tm_state.specs.Asking.{MayRunBatch}
 use Rattle.tm_pair.specs.Views.{Hand, TrusteeView, hand_of, looks_at, no_looks}
 use Rattle.tm_pair.specs.Calls.{LooksAt, Takes, MayAnswer, HasAnswered}
 use Rattle.tm_pair.specs.Sides.{IsGoodTrustee}

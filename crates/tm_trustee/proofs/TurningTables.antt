@@ -8,8 +8,8 @@ use Rattle.std.proofs.lemmas.List.{length-map}
 use Rattle.std.proofs.lemmas.Option.{slice_get_within, slice_get_read}
 use Rattle.tm_seq.specs.Kind.{Kind}
 use Rattle.tm_model.specs.State.{State, place_count}
-use Rattle.tm_estate.specs.Holding.{Holding}
-use Rattle.tm_estate.specs.Standing.{Stands}
+use Rattle.tm_state.specs.Holding.{Holding}
+use Rattle.tm_state.specs.Standing.{Stands}
 use Rattle.tm_pair.specs.Views.{ClientView, TrusteeView, hand_of}
 use Rattle.tm_pair.specs.Sides.{IsGoodTrustee}
 use Rattle.tm_trustee.specs.Above.{IsAbove}

@@ -3,7 +3,7 @@ use Rattle.std.proofs.Common.{◌≡◌, ℕ, ◌+◌, ◌≤◌, ◌↔◌, IsT
 use Rattle.std.specs.Prelude.{All}
 use Rattle.tm_seq.specs.Kind.{Kind}
 use Rattle.tm_model.specs.State.{State, place_count}
-use Rattle.tm_estate.specs.Asking.{HaveAllEnded}
+use Rattle.tm_state.specs.Asking.{HaveAllEnded}
 use Rattle.tm_pair.specs.Views.{ClientView, TrusteeView}
 use Rattle.tm_pair.specs.Sides.{IsGoodTrustee}
 use Rattle.tm_pair.specs.declared.moves.Move.{Move}

@@ -6,7 +6,7 @@ use Rattle.tm_batch.specs.declared.config.First.{First}
 use Rattle.tm_batch.specs.declared.message.Name.{Name}
 use Rattle.tm_model.specs.State.{State}
 use Rattle.tm_model.specs.Opening.{opening_of}
-use Rattle.tm_estate.specs.Opened.{MayOpen}
+use Rattle.tm_state.specs.Opened.{MayOpen}
 use Rattle.tm_pair.specs.Views.{ClientView, TrusteeView, hand_of}
 use Rattle.tm_trustee.specs.Above.{IsAt}
 use Rattle.tm_trustee.specs.Standing.{AreNested}

@@ -4,8 +4,8 @@ use Rattle.std.specs.declared.option.Option.TheVariants.{None}
 use Rattle.tm_seq.specs.Kind.{Kind}
 use Rattle.tm_batch.specs.declared.message.Name.{Name}
 use Rattle.tm_model.specs.State.{State, Setup, ids_above}
-use Rattle.tm_estate.specs.Holding.{Holding}
-use Rattle.tm_estate.specs.Standing.{Stands}
+use Rattle.tm_state.specs.Holding.{Holding}
+use Rattle.tm_state.specs.Standing.{Stands}
 use Rattle.tm_pair.specs.Views.{ClientView, TrusteeView, hand_of}
 use Rattle.tm_trustee.specs.Above.{IsAbove}
 use Rattle.tm_trustee.specs.declared.stage.Stage.{Stage}

@@ -3,7 +3,7 @@ use Rattle.std.specs.Prelude.{◌≡◌, ℕ, ◌+◌, ◌<◌, ◌≤◌, List,
 use Rattle.tm_seq.specs.Kind.{Kind}
 use Rattle.tm_model.specs.State.{State, place_count}
 use Rattle.tm_model.specs.Lists.{IsPrefix}
-use Rattle.tm_estate.specs.Asking.{HaveAllEnded}
+use Rattle.tm_state.specs.Asking.{HaveAllEnded}
 use Rattle.tm_pair.specs.Views.{ClientView, TrusteeView, looks_at}
 use Rattle.tm_pair.specs.declared.moves.Move.{Move}
 use Rattle.tm_trustee.specs.Places.{ServesBelow, found_below}

@@ -8,10 +8,10 @@ ghost use Rattle.tm_trustee.specs.Tables.{AreAmong, KeepsAbove};
 
 use crate::stage::Stage;
 use tm_batch::{Batch, Request};
-use tm_pair::{Collected, Held, PairTable, SmallBatch};
+use tm_pair::{Collected, FitsBatches, Held, PairTable};
 
 /// Looks for the answer to a `Bye` that is out. Whether it was collected.
-pub(crate) fn look_up<S: SmallBatch, P: PairTable<S>>(
+pub(crate) fn look_up<S: FitsBatches, P: PairTable<S>>(
     table: &mut P,
     seat: &mut P::ClientSide,
     stage: &mut Stage,
@@ -38,7 +38,7 @@ pub(crate) fn look_up<S: SmallBatch, P: PairTable<S>>(
 }
 
 /// Publishes a `Bye` alone at a side where nothing was sent.
-fn send_bye<S: SmallBatch, P: PairTable<S>>(
+fn send_bye<S: FitsBatches, P: PairTable<S>>(
     table: &mut P,
     seat: &mut P::ClientSide,
 ) -> Result<(), Held<S>>
@@ -59,7 +59,7 @@ fn send_bye<S: SmallBatch, P: PairTable<S>>(
 }
 
 /// Says `Bye` at a side, unless that was done. Whether it was said now.
-pub(crate) fn say_bye<S: SmallBatch, P: PairTable<S>>(
+pub(crate) fn say_bye<S: FitsBatches, P: PairTable<S>>(
     table: &mut P,
     seat: &mut P::ClientSide,
     stage: &mut Stage,
@@ -85,7 +85,7 @@ pub(crate) fn say_bye<S: SmallBatch, P: PairTable<S>>(
 }
 
 /// Looks for the answer at side `i` above. Whether it was collected.
-fn look_at<S: SmallBatch, P: PairTable<S>>(
+fn look_at<S: FitsBatches, P: PairTable<S>>(
     tables: &mut [P],
     from: u32,
     above: &mut Vec<P::ClientSide>,
@@ -105,7 +105,7 @@ fn look_at<S: SmallBatch, P: PairTable<S>>(
 }
 
 /// Looks at each side above, in order. How many answers were collected.
-pub(crate) fn looks_above<S: SmallBatch, P: PairTable<S>>(
+pub(crate) fn looks_above<S: FitsBatches, P: PairTable<S>>(
     tables: &mut [P],
     from: u32,
     above: &mut Vec<P::ClientSide>,
@@ -130,7 +130,7 @@ pub(crate) fn looks_above<S: SmallBatch, P: PairTable<S>>(
 }
 
 /// Says `Bye` at side `i` above, unless that was done. Whether it was said now.
-fn bye_at<S: SmallBatch, P: PairTable<S>>(
+fn bye_at<S: FitsBatches, P: PairTable<S>>(
     tables: &mut [P],
     from: u32,
     above: &mut Vec<P::ClientSide>,
@@ -150,7 +150,7 @@ fn bye_at<S: SmallBatch, P: PairTable<S>>(
 }
 
 /// Says `Bye` at each side above where that was not done, in order. How many were said.
-pub(crate) fn byes_above<S: SmallBatch, P: PairTable<S>>(
+pub(crate) fn byes_above<S: FitsBatches, P: PairTable<S>>(
     tables: &mut [P],
     from: u32,
     above: &mut Vec<P::ClientSide>,

@@ -1,7 +1,7 @@
 //! A trustee: it serves its table, and says `Bye` upward once all below have.
 //!
 //! It stands over any table of slots, on one thread or on many; what it has of its own is an
-//! [`Estate`](tm_estate::Estate).
+//! [`Estate`](tm_state::Estate).
 #![tactic(auto)]
 
 mod above;

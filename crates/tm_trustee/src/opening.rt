@@ -11,12 +11,12 @@ use crate::stage::Stage;
 use crate::trustee::Trustee;
 use std::alloc::{AllocError, Global};
 use tm_batch::{Config, First, Name};
-use tm_estate::Estate;
-use tm_pair::{PairTable, SmallBatch};
+use tm_pair::{FitsBatches, PairTable};
+use tm_state::Estate;
 
 /// There was no memory for a trustee: all that was passed comes back.
 #[derive(Drop)]
-pub struct TrusteeRefused<S: SmallBatch, P: PairTable<S>> {
+pub struct TrusteeRefused<S: FitsBatches, P: PairTable<S>> {
     /// The objects placed on it.
     pub first: Vec<First<S>>,
     /// Its own side.
@@ -27,7 +27,7 @@ pub struct TrusteeRefused<S: SmallBatch, P: PairTable<S>> {
     pub nested: Vec<(u32, Name)>,
 }
 
-impl<S: SmallBatch, P: PairTable<S>> Trustee<S, P> {
+impl<S: FitsBatches, P: PairTable<S>> Trustee<S, P> {
     /// Trustee `number` of a runtime built from a config and a list of objects. `first` are those of them that
     /// are placed on it, in order; `side` is its side of its own table, `above` are its sides at the trustees
     /// `number + 1` and on, and `nested` are the objects that it holds at them, by their trustees' numbers, in the

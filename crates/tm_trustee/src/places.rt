@@ -3,7 +3,7 @@ ghost use Rattle.std.specs.Prelude.{◌≡◌, ℕ, ◌+◌, ◌-◌, ◌^◌, �
 ghost use Rattle.std.specs.declared.option.Option.TheVariants.{None, Some};
 ghost use Rattle.tm_batch.specs.declared.message.AnswerBatch.{AnswerBatch};
 ghost use Rattle.tm_model.specs.State.{State, place_count};
-ghost use Rattle.tm_estate.specs.Standing.{Stands};
+ghost use Rattle.tm_state.specs.Standing.{Stands};
 ghost use Rattle.tm_pair.specs.Views.{hand_of, looks_at};
 ghost use Rattle.tm_pair.specs.Calls.{MayAnswer, HasAnswered};
 ghost use Rattle.tm_pair.specs.Moves.{answer_of};
@@ -12,11 +12,11 @@ ghost use Rattle.tm_trustee.specs.Places.{ServesPlace, ServesBelow, found_below}
 use std::marker::Brand;
 use tm_base::Gate;
 use tm_batch::Batch;
-use tm_estate::Estate;
-use tm_pair::{PairTable, SmallBatch};
+use tm_pair::{FitsBatches, PairTable};
+use tm_state::Estate;
 
 /// Runs the batch of a place that is in hand, and answers it.
-fn answer_batch<S: SmallBatch, P: PairTable<S>, G: Gate>(
+fn answer_batch<S: FitsBatches, P: PairTable<S>, G: Gate>(
     table: &mut P,
     side: &mut P::TrusteeSide,
     estate: &mut Estate<S>,
@@ -39,7 +39,7 @@ fn answer_batch<S: SmallBatch, P: PairTable<S>, G: Gate>(
 }
 
 /// Looks once at a place, and answers the batch that it finds. Whether it found one.
-pub(crate) fn serve_place<S: SmallBatch, P: PairTable<S>, G: Gate>(
+pub(crate) fn serve_place<S: FitsBatches, P: PairTable<S>, G: Gate>(
     table: &mut P,
     side: &mut P::TrusteeSide,
     estate: &mut Estate<S>,
@@ -75,7 +75,7 @@ fn count(found: u64, more: bool) -> u64
 }
 
 /// Serves the places below a number, in order. At how many of them it found a batch.
-pub(crate) fn serve_places<S: SmallBatch, P: PairTable<S>, G: Gate>(
+pub(crate) fn serve_places<S: FitsBatches, P: PairTable<S>, G: Gate>(
     table: &mut P,
     side: &mut P::TrusteeSide,
     estate: &mut Estate<S>,

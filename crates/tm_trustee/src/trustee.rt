@@ -2,13 +2,13 @@
 
 use crate::stage::Stage;
 use tm_batch::Name;
-use tm_estate::Estate;
-use tm_pair::{PairTable, SmallBatch};
+use tm_pair::{FitsBatches, PairTable};
+use tm_state::Estate;
 
 /// A trustee, with its side of its own table and its sides of the tables of greater trustees. Contracts say of
 /// which opening state it is, and that the tables are those of its sides.
 #[derive(Drop)]
-pub struct Trustee<S: SmallBatch, P: PairTable<S>> {
+pub struct Trustee<S: FitsBatches, P: PairTable<S>> {
     pub(crate) number: u32,
     pub(crate) clients: u32,
     pub(crate) estate: Estate<S>,

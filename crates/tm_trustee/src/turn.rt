@@ -1,7 +1,7 @@
 //! A turn of a trustee.
 ghost use Rattle.std.specs.Prelude.{◌≡◌, ◌≢◌, ℕ, ◌+◌, ◌≤◌, ◌↔◌, IsTrue, All, length, map, slice_get};
 ghost use Rattle.tm_model.specs.State.{State, place_count};
-ghost use Rattle.tm_estate.specs.Asking.{HaveAllEnded};
+ghost use Rattle.tm_state.specs.Asking.{HaveAllEnded};
 ghost use Rattle.tm_trustee.specs.Places.{ServesBelow, found_below};
 ghost use Rattle.tm_trustee.specs.Above.{LooksUp, SaysBye, LooksUpAt, SaysByeAt, GoesUpAt, Each, all_moves_up};
 ghost use Rattle.tm_trustee.specs.AboveAt.{EachAt};
@@ -16,7 +16,7 @@ use crate::served::Served;
 use crate::stage::Stage;
 use crate::trustee::Trustee;
 use tm_base::Gate;
-use tm_pair::{PairTable, SmallBatch};
+use tm_pair::{FitsBatches, PairTable};
 
 /// Whether each of some stages is over.
 fn are_over(stages: &[Stage]) -> bool
@@ -45,7 +45,7 @@ fn outcome(ended: bool, moved: u64) -> Served
     }
 }
 
-impl<S: SmallBatch, P: PairTable<S>> Trustee<S, P> {
+impl<S: FitsBatches, P: PairTable<S>> Trustee<S, P> {
     /// Looks at each side above, in order. How many answers were collected.
     fn look_above(&mut self, tables: &mut [P]) -> u64
         requires ready { (opening : State S S.Op S.Reply S.Task) × IsReady P.opening P.client_view P.HasClient P.HasTrustee S.kind P.trustee_view opening tables.old self.old }

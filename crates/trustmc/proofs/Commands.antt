@@ -10,7 +10,7 @@ use Rattle.mc_model.specs.Moments.{latest, moments_from}
 use Rattle.mc_model.specs.Showing.{shown_of, shown_of_fault, shown_of_all, commands_of}
 use Rattle.mc_model.specs.Rendering.{bytes_of, rendered}
 use Rattle.mc_model.specs.Class.{Class}
-use Rattle.mc_classes.specs.Replies.{ClassesReply, ClassesRun}
+use Rattle.mc_laws.specs.Replies.{ClassesReply, ClassesRun}
 use Rattle.trustmc.specs.Answering.{last_moment}
 
 pub moments_more : (moment : ℕ) (readings : List ℕ) (reading : ℕ) → moments_from moment (readings ++ reading ∷ []) ≡ moments_from moment readings ++ latest (last_moment moment readings) reading ∷ []

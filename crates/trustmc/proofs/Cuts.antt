@@ -1,7 +1,7 @@
 -- A connection that stopped before its input ended.
 use Rattle.std.proofs.Common.{◌≡◌, ℕ, ◌+◌, ◌≤◌, Bool, List, [], ◌++◌, length, take, Option, Some, sym, ap, ◌∙◌, arith, append_assoc}
 use Rattle.std.proofs.Math.Seq.{take-append-add}
-use Rattle.tm_base.specs.Told.{Grows, GrowsByFront}
+use Rattle.tm_base.specs.Visible.{Grows, GrowsByFront}
 use Rattle.mc_model.specs.Showing.{shown_of_all}
 use Rattle.mc_model.specs.Rendering.{rendered}
 use Rattle.mc_grammar.specs.declared.progress.Progress.{Progress}

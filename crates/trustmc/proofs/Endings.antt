@@ -1,7 +1,7 @@
 -- How a connection ends, in the words of the program's contract.
 use Rattle.std.proofs.Common.{◌≡◌, ◌≢◌, ℕ, ◌<◌, ◌≤◌, Bool, true, false, cond, List, [], ◌++◌, length, take, Option, Ok, Err, refl, sym, ap, subst, ◌∙◌, inl, inr}
 use Rattle.std.proofs.lemmas.List.{append-nil}
-use Rattle.tm_base.specs.Told.{Grows}
+use Rattle.tm_base.specs.Visible.{Grows}
 use Rattle.mc_model.specs.declared.message.Message.{Message}
 use Rattle.mc_model.specs.declared.reply.ShardReply.{ShardReply}
 use Rattle.mc_model.specs.Moments.{moments_of}
@@ -15,9 +15,9 @@ use Rattle.mc_grammar.specs.Progress.{IsUnfinished}
 use Rattle.mc_grammar.specs.Reading.{ReadsRest}
 use Rattle.mc_grammar.proofs.ReadFacts.{reads_rest}
 use Rattle.mc_grammar.proofs.Spellings.{reads_extend}
-use Rattle.mc_classes.specs.Classes.{new_classes}
-use Rattle.mc_classes.specs.Replies.{ClassesRun}
-use Rattle.mc_classes.proofs.Runs.{run_as_one}
+use Rattle.mc_laws.specs.Classes.{new_classes}
+use Rattle.mc_laws.specs.Replies.{ClassesRun}
+use Rattle.mc_laws.proofs.Runs.{run_as_one}
 use Rattle.mc_session.specs.Session.{Serving}
 use Rattle.trustmc.specs.declared.connection.End.{End}
 use Rattle.trustmc.specs.declared.connection.End.TheVariants.{Between, Inside, TooMuch}

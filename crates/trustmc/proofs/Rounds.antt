@@ -1,7 +1,7 @@
 -- One read of a connection, and what it brought.
 use Rattle.std.proofs.Common.{◌≡◌, ◌≢◌, ℕ, ◌-◌, ◌<◌, ◌≤◌, min, false, List, [], ◌++◌, length, take, drop, Option, Result, Ok, Err, refl, sym, ap, subst, ◌∙◌, arith, append_assoc, length-append}
 use Rattle.std.proofs.lemmas.List.{take_all, take-append-drop, length-take-le}
-use Rattle.tm_base.specs.Told.{Stays, Gives, IsEmptyWhereTold}
+use Rattle.tm_base.specs.Visible.{Stays, Gives, IsEmptyWhereTold}
 use Rattle.mc_grammar.specs.declared.progress.Progress.{Progress}
 use Rattle.mc_grammar.specs.Progress.{Start, IsUnfinished}
 use Rattle.mc_grammar.proofs.Piecewise.{start_unfinished}

@@ -2,7 +2,7 @@
 use Rattle.std.proofs.Common.{◌≡◌, ℕ, Bool, false, List, [], ◌∷◌, ◌++◌, length, take, drop, ◌+◌, ◌-◌, Option, Some, Result, Ok, Err, refl, sym, ap, subst, ◌∙◌, append_assoc}
 use Rattle.std.specs.Prelude.{OnOk}
 use Rattle.std.proofs.lemmas.List.{append-nil}
-use Rattle.tm_base.specs.Told.{Grows}
+use Rattle.tm_base.specs.Visible.{Grows}
 use Rattle.mc_model.specs.declared.message.Command.{Command}
 use Rattle.mc_model.specs.declared.message.Fault.{Fault}
 use Rattle.mc_model.specs.declared.message.Message.TheVariants as message
@@ -17,8 +17,8 @@ use Rattle.mc_grammar.specs.Progress.{Start}
 use Rattle.mc_grammar.specs.Reading.{IsRead, ReadsOn, ReadsItem, Comes, ReadsNext}
 use Rattle.mc_grammar.proofs.ReadFacts.{none_read}
 use Rattle.mc_grammar.proofs.Piecewise.{from_place}
-use Rattle.mc_classes.specs.Classes.{new_classes}
-use Rattle.mc_classes.specs.Replies.{ClassesReply}
+use Rattle.mc_laws.specs.Classes.{new_classes}
+use Rattle.mc_laws.specs.Replies.{ClassesReply}
 use Rattle.mc_session.specs.Session.{Serving, first_serving, with_shown, Answered}
 use Rattle.trustmc.specs.declared.answering.Heard.{Heard}
 use Rattle.trustmc.specs.declared.answering.Heard.TheVariants.{All, Quit}

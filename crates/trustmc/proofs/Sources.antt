@@ -3,7 +3,7 @@ use Rattle.std.proofs.Common.{◌≡◌, ℕ, ◌+◌, ◌≤◌, min, List, [],
 use Rattle.std.proofs.lemmas.Bool.{cases_lt}
 use Rattle.std.proofs.lemmas.List.{append-nil, take_all, take-take, length-take-le}
 use Rattle.std.proofs.Math.Seq.{take-append-add, take-append_seam}
-use Rattle.tm_base.specs.Told.{Stays, Gives, IsEmptyWhereTold}
+use Rattle.tm_base.specs.Visible.{Stays, Gives, IsEmptyWhereTold}
 use Rattle.trustmc.specs.Input.{CameSoFar, CameWhole}
 
 pub none_came : (left : Option (List ℕ)) → CameSoFar left left []

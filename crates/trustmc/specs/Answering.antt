@@ -1,7 +1,7 @@
 -- What a connection has answered of a stream.
 use Rattle.std.specs.Prelude.{◌≡◌, ℕ, ◌≤◌, Bool, true, false, List, ◌++◌, length, take, Option, Some}
 use Rattle.std.specs.List.{fold}
-use Rattle.tm_base.specs.Told.{Grows}
+use Rattle.tm_base.specs.Visible.{Grows}
 use Rattle.mc_model.specs.declared.message.Message.{Message}
 use Rattle.mc_model.specs.declared.reply.ShardReply.{ShardReply}
 use Rattle.mc_model.specs.Moments.{latest, moments_of}
@@ -14,8 +14,8 @@ use Rattle.mc_grammar.specs.declared.progress.Progress.{Progress}
 use Rattle.mc_grammar.specs.declared.reader.Next.{Next}
 use Rattle.mc_grammar.specs.declared.reader.Next.TheVariants as next
 use Rattle.mc_grammar.specs.Reading.{IsRead}
-use Rattle.mc_classes.specs.Classes.{new_classes}
-use Rattle.mc_classes.specs.Replies.{ClassesRun}
+use Rattle.mc_laws.specs.Classes.{new_classes}
+use Rattle.mc_laws.specs.Replies.{ClassesRun}
 use Rattle.mc_session.specs.Session.{Serving, with_shown, Answered}
 use Rattle.trustmc.specs.declared.answering.Heard.{Heard}
 use Rattle.trustmc.specs.declared.answering.Heard.TheVariants.{All, Quit}

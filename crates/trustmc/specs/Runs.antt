@@ -1,7 +1,7 @@
 -- What a run of the program does.
 use Rattle.std.specs.Prelude.{◌≡◌, ◌≢◌, ℕ, ◌≤◌, ◌<◌, ◌⊎◌, true, false, List, [], ◌∷◌, ◌++◌, length, map, take, Option, Some, codes, string_bytes, String}
 use Rattle.std.specs.declared.alloc.Global.{Global}
-use Rattle.tm_base.specs.Told.{Grows}
+use Rattle.tm_base.specs.Visible.{Grows}
 use Rattle.mc_model.specs.declared.message.Message.{Message}
 use Rattle.mc_model.specs.declared.reply.ShardReply.{ShardReply}
 use Rattle.mc_model.specs.Moments.{moments_of}

@@ -1,7 +1,7 @@
 //! One message is answered.
 ghost use Rattle.std.specs.Prelude.{◌≡◌, IfOk, OnOk, OnErr};
 ghost use Rattle.tm_base.specs.Causes.{HasCause};
-ghost use Rattle.tm_base.specs.Told.{GrowsByFront};
+ghost use Rattle.tm_base.specs.Visible.{GrowsByFront};
 ghost use Rattle.mc_model.specs.Quits.{is_quit_command};
 ghost use Rattle.mc_session.specs.Session.{GaveUp};
 ghost use Rattle.trustmc.specs.Answering.{is_quit_heard, AnswersNext, IsFlushed};

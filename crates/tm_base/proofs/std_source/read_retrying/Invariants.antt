@@ -1,4 +1,4 @@
-use Rattle.tm_base.specs.Told.{Stays}
+use Rattle.tm_base.specs.Visible.{Stays}
 use Rattle.tm_base.proofs.std_source.read_retrying.Given as goal
 
 abbrev pub invariant-loop : goal.invariant-loop

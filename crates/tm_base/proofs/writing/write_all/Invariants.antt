@@ -1,5 +1,5 @@
 use Rattle.std.proofs.Common.{◌≡◌, ◌≤◌, ◌-◌, length, take}
-use Rattle.tm_base.specs.Told.{Grows}
+use Rattle.tm_base.specs.Visible.{Grows}
 use Rattle.tm_base.proofs.writing.write_all.Given as goal
 
 abbrev pub invariant-loop-at : goal.invariant-loop-at

@@ -16,7 +16,7 @@ answer-requires g c =
     nothing.nothing_grows kind opening c.states_are_sound.ensures c.legal_logs_join.ensures c.batches_join.ensures
     c.batches_have_all_answers.ensures view c.args.client room c.new.result good c.requires.in_range most c.requires.waits
     (c.new.ensures.front ∙ c.requires.front) c.new.ensures.answers c.new.ensures.gifts c.new.ensures.completions in (
-      g.met.S.Small.fits,
+      g.met.S.FitsAnswers.fits,
       (
         c.requires.mine,
         subst

@@ -15,7 +15,7 @@ answer_free-requires-clause-in_range g c =
     (subst (λ n. n < place_count (opening c.args.table.now).setup) c.requires.place good.in_range)
 
 pub collect-requires : goal.collect-requires
-collect-requires g c = (g.met.S.SmallBatch.fits_found, c.answer_free.ensures.clients _ c.ask_free.ensures.mine)
+collect-requires g c = (g.met.S.FitsBatches.fits_found, c.answer_free.ensures.clients _ c.ask_free.ensures.mine)
 
 pub returns-clause-finds : goal.returns-clause-finds
 returns-clause-finds g c =

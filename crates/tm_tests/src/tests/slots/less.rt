@@ -3,8 +3,8 @@ ghost use Rattle.std.proofs.Common.{lit<};
 ghost use Rattle.tm_seq.specs.Kind.{IsResume};
 ghost use Rattle.tm_tests.specs.Sample.{less_kind, less_laws};
 
-use tm_batch::Small;
-use tm_pair::{Placed, SmallBatch};
+use tm_batch::FitsAnswers;
+use tm_pair::{FitsBatches, FitsTable};
 use tm_seq::{Entrusted, Event, Next};
 
 /// A number that is taken away from each number that is asked. It launches nothing, and `0` is its
@@ -45,11 +45,11 @@ impl Entrusted for Less {
     }
 }
 
-impl Small for Less {
+impl FitsAnswers for Less {
     ghost fits = { lit< tt };
 }
 
-impl SmallBatch for Less {
+impl FitsBatches for Less {
     ghost fits_batch = { lit< tt };
 
     ghost fits_held = { lit< tt };
@@ -59,7 +59,7 @@ impl SmallBatch for Less {
     ghost fits_found = { lit< tt };
 }
 
-impl Placed for Less {
+impl FitsTable for Less {
     ghost fits_place = { lit< tt };
 
     ghost fits_move = { lit< tt };

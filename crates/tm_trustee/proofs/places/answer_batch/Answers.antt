@@ -6,9 +6,9 @@ answer-answers-requires g c =
     let opening = g.P.PairTable.opening c.args.table.now in
     let view = g.P.PairTable.trustee_view c.args.side.now in
     let good = g.met.P.PairTable.trustee_is_good c.args.table.now c.args.side.now c.requires.mine in (
-      g.met.S.SmallBatch.fits_batch,
+      g.met.S.FitsBatches.fits_batch,
       (
-        g.met.S.Small.fits,
+        g.met.S.FitsAnswers.fits,
         (
           opening,
           view.log,
@@ -26,7 +26,7 @@ answer-requires g c =
     let may =
     in_hand_may_run g.S.Entrusted.kind opening view c.args.estate.now c.args.place c.args.batch.requests.items c.args.batch.room good
     c.requires.stands c.requires.place c.requires.hand in (
-      g.met.S.Small.fits,
+      g.met.S.FitsAnswers.fits,
       (
         c.requires.mine,
         may_answer g.S.Entrusted.kind opening view c.args.place c.args.batch.requests.items c.args.batch.room c.answer-answers.result

@@ -1,11 +1,11 @@
 use Rattle.std.proofs.Common.{◌<◌, sym, ◌∙◌, subst, inl}
 use Rattle.tm_model.specs.State.{place_count}
-use Rattle.tm_estate.specs.Standing.{Stands}
+use Rattle.tm_state.specs.Standing.{Stands}
 use Rattle.tm_trustee.proofs.Serving as serving
 use Rattle.tm_trustee.proofs.places.serve_place.Goals as goal
 
 pub see-requires : goal.see-requires
-see-requires g c = (g.met.S.SmallBatch.fits_batch, (c.requires.mine, (c.requires.place, c.requires.free)))
+see-requires g c = (g.met.S.FitsBatches.fits_batch, (c.requires.mine, (c.requires.place, c.requires.free)))
 
 pub answer_batch-requires : goal.answer_batch-requires
 answer_batch-requires g c =
@@ -16,7 +16,7 @@ answer_batch-requires g c =
     let good = g.met.P.PairTable.trustee_is_good c.args.table.now c.args.side.now c.requires.mine in
     let batch = c.in-Some.batch in
     let is = c.in-Some.ensures.opening in (
-      g.met.S.SmallBatch.fits_batch,
+      g.met.S.FitsBatches.fits_batch,
       (
         c.in-Some.ensures.mine,
         (

@@ -1,6 +1,6 @@
 use Rattle.std.proofs.Common.{◌≡◌, ◌+◌, ◌<◌, ◌≤◌, cond, refl, ap, sym, ◌∙◌, subst, arith}
 use Rattle.tm_model.specs.State.{place_count}
-use Rattle.tm_estate.specs.Standing.{Stands}
+use Rattle.tm_state.specs.Standing.{Stands}
 use Rattle.tm_trustee.specs.Places.{ServesPlace, ServesBelow, found_below}
 use Rattle.tm_trustee.proofs.Serving as serving
 use Rattle.tm_trustee.proofs.places.serve_places.Goals as goal

@@ -1,6 +1,6 @@
 use Rattle.std.proofs.Common.{◌≡◌, ℕ, ◌≤◌}
 use Rattle.std.specs.declared.option.Option.TheVariants.{None}
-use Rattle.tm_estate.specs.Standing.{Stands}
+use Rattle.tm_state.specs.Standing.{Stands}
 use Rattle.tm_pair.specs.Views.{hand_of}
 use Rattle.tm_trustee.specs.Places.{ServesBelow, found_below}
 use Rattle.tm_trustee.proofs.Serving.{KeepsClients}

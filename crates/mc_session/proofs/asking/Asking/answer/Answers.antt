@@ -2,7 +2,7 @@ use Rattle.std.proofs.Common.{ℤ, w64, subst, rules}
 use mir.Val.{SFits}
 use Rattle.std.proofs.lemmas.Int.{to_z-of_z}
 use Rattle.mc_model.specs.Rows.{Store, Touch}
-use Rattle.mc_classes.specs.Replies.{IsClassPart}
+use Rattle.mc_laws.specs.Replies.{IsClassPart}
 use Rattle.mc_session.proofs.Replies.{store_answer, delete_answer, change_answer, touch_answer, flush_answer, stats_answer}
 use Rattle.mc_session.proofs.asking.Asking.answer.Goals as goal
 

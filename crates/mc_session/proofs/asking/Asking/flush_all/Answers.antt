@@ -1,6 +1,6 @@
 use Rattle.std.proofs.Common.{◌≡◌, ◌∙◌, ℕ, refl, sym, subst, arith, inl, inr}
 use Rattle.mc_model.specs.Class.{Class, flush_step}
-use Rattle.mc_classes.specs.Classes.{first_changed}
+use Rattle.mc_laws.specs.Classes.{first_changed}
 use Rattle.mc_session.proofs.Flushes.{not_done, flushed_more}
 use Rattle.mc_session.proofs.asking.Asking.flush_all.Goals as goal
 

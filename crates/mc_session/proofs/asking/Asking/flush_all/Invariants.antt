@@ -1,6 +1,6 @@
 use Rattle.std.proofs.Common.{◌≡◌}
 use Rattle.mc_model.specs.Class.{flush_step}
-use Rattle.mc_classes.specs.Classes.{first_changed}
+use Rattle.mc_laws.specs.Classes.{first_changed}
 use Rattle.mc_session.proofs.asking.Asking.flush_all.Given as goal
 
 abbrev pub invariant-loop-class : goal.invariant-loop-class

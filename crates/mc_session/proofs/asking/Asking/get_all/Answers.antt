@@ -1,6 +1,6 @@
 use Rattle.std.proofs.Common.{List, ℕ, subst}
 use Rattle.mc_model.specs.Rows.{Get}
-use Rattle.mc_classes.specs.Replies.{IsClassPart}
+use Rattle.mc_laws.specs.Replies.{IsClassPart}
 use Rattle.mc_session.proofs.Gets.{got_more}
 use Rattle.mc_session.proofs.asking.Asking.get_all.Goals as goal
 

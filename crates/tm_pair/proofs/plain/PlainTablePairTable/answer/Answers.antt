@@ -34,7 +34,7 @@ answer-requires g c =
     c.requires.mine.view c.requires.may in
     let was = c.index_mut.result.now in
     let shown = tabling.slot_shown table.places.items at was was core (subst (λ n. at < n) of.shows.count lt) c.index_mut.ensures.value of.shows in
-    (g.met.S.Placed.fits_place, (g.met.S.Small.fits, tabling.taken_in_hand was.content (slot_of core at).box hand.requests hand.room shown.box taken))
+    (g.met.S.FitsTable.fits_place, (g.met.S.FitsAnswers.fits, tabling.taken_in_hand was.content (slot_of core at).box hand.requests hand.room shown.box taken))
 
 pub returns : goal.returns
 returns g c =

@@ -12,7 +12,7 @@ use Rattle.tm_pair.proofs.Tabling as tabling
 use Rattle.tm_pair.proofs.plain.PlainTablePairTable.publish.Goals as goal
 
 pub publish-requires : goal.publish-requires
-publish-requires g c = (g.met.S.Placed.fits_place, search rules)
+publish-requires g c = (g.met.S.FitsTable.fits_place, search rules)
 
 pub returns-then-not-is_free : goal.returns-then-not-is_free
 returns-then-not-is_free g c =

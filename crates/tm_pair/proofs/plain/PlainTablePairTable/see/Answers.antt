@@ -2,7 +2,7 @@ use Rattle.std.proofs.Common.{refl, sym, ◌∙◌, ap, subst}
 use Rattle.std.specs.Prelude.{MatchOption}
 use Rattle.tm_model.specs.Slots.{slot_of, see}
 use Rattle.tm_core.proofs.Accounts.{see_keeps_good}
-use Rattle.tm_core.proofs.Promised.{batches_are_told}
+use Rattle.tm_core.proofs.Promised.{batches_are_promised}
 use Rattle.tm_pair.specs.Stands.{client_of, trustee_of}
 use Rattle.tm_pair.specs.Moves.{core_after}
 use Rattle.tm_pair.specs.Calls.{SeesNothing, Takes}
@@ -33,7 +33,7 @@ returns g c =
     (see_keeps_good kind opening core at lt of.good)
     (tabling.see_shown table.places.items at was new core place is of.shows c.see-given.result c.see-given.ensures.gave c.see-given.ensures.words) in
     let sees = stepping.sees kind opening core at was.content new.content c.see-given.result shown.box c.see-given.ensures.gave
-    (λ b room asked. (batches_are_told kind opening core at b room (opens kind table of) of.good lt).0 asked) in
+    (λ b room asked. (batches_are_promised kind opening core at b room (opens kind table of) of.good lt).0 asked) in
     record {
       sees =
           subst (λ old. MatchOption c.see-given.result (SeesNothing at old (trustee_of (core_after c.again-side.result.items)))

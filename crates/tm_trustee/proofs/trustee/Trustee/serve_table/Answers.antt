@@ -1,7 +1,7 @@
 use Rattle.std.proofs.Common.{◌≡◌, ◌+◌, ◌≤◌, refl, sym, subst, arith, slice_index_or, slice_set}
 use Rattle.std.proofs.lemmas.Option.{slice_get_within}
 use Rattle.tm_model.specs.State.{place_count}
-use Rattle.tm_estate.specs.Standing.{Stands}
+use Rattle.tm_state.specs.Standing.{Stands}
 use Rattle.tm_trustee.specs.Places.{ServesBelow, found_below}
 use Rattle.tm_trustee.proofs.TurningLooks as looks
 use Rattle.tm_trustee.proofs.Elements.{same_element, set_here}

@@ -2,7 +2,7 @@ use Rattle.std.proofs.Common.{◌≡◌, ◌+◌, ◌≤◌, ◌↔◌, IsTrue, 
 use Rattle.std.specs.Prelude.{All, slice_get}
 use Rattle.std.specs.declared.option.Option.TheVariants.{Some}
 use Rattle.tm_model.specs.State.{place_count}
-use Rattle.tm_estate.specs.Asking.{HaveAllEnded}
+use Rattle.tm_state.specs.Asking.{HaveAllEnded}
 use Rattle.tm_trustee.specs.Places.{ServesBelow, found_below}
 use Rattle.tm_trustee.specs.Tables.{KeepsAbove}
 use Rattle.tm_trustee.specs.Above.{LooksUp, SaysByeAt, Each, all_moves_up}

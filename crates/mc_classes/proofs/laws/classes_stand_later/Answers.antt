@@ -1,5 +1,0 @@
-use Rattle.mc_classes.proofs.Parts.{stand_later}
-use Rattle.mc_classes.proofs.laws.classes_stand_later.Goals as goal
-
-pub returns : goal.returns
-returns c = stand_later

@@ -1,0 +1,13 @@
+use Rattle.std.proofs.Common.{◌∙◌}
+use Rattle.std.proofs.lemmas.Result.{IfOk-weaker}
+use Rattle.std.proofs.lemmas.Int.{to_z-of_z}
+use Rattle.mc_model.specs.Rows.{Store}
+use Rattle.mc_reference.specs.Effect.{outcome}
+use Rattle.mc_reference.proofs.Steps.{key_done}
+use Rattle.mc_reference.proofs.plain.Plain.store.Goals as goal
+
+pub returns : goal.returns
+returns c =
+    let a = c.args in
+    IfOk-weaker c.put.result _ _ (λ done is. is ∙ key_done a.self c.take-before.new.self a.moment a.key (Store a.how a.flags a.exptime a.value) c.take-before.result (outcome c.in_ok-effect.effect)
+    c.take-before.ensures.item c.take-before.ensures.rest (rw (to_z-of_z _ _ c.ranges.exptime) at c.in_ok-effect.ensures.outcome)) c.put.ensures

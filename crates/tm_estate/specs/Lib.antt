@@ -1,5 +1,0 @@
-pub mod Holding
-pub mod Standing
-pub mod Asking
-pub mod Opened
-pub mod Placed

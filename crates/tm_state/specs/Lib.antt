@@ -1,0 +1,5 @@
+pub mod Holding
+pub mod Standing
+pub mod Asking
+pub mod Opened
+pub mod PlacedObjects

@@ -1,0 +1,119 @@
+//! Each request's row.
+ghost use Rattle.std.specs.Prelude.{◌≡◌};
+ghost use Rattle.tm_batch.specs.declared.message.Request.TheVariants.{Entrust, Apply, Launch, Grant, Release, Reclaim, Bye};
+ghost use Rattle.tm_state.specs.Asking.{IsServable, HasServed};
+
+use crate::estate::Estate;
+use crate::work::Work;
+use tm_batch::{Answer, Name, Request};
+use tm_objects::More;
+use tm_seq::Entrusted;
+
+impl<S: Entrusted> Estate<S> {
+    /// Serves a request of a place by its row. The counts of requests and entries stay.
+    pub(crate) fn serve(&mut self, place: u32, request: Request<S>) -> Answer<S>
+        requires { IsServable S.kind place request self.old }
+        ensures served { HasServed S.kind place request result self.old self.new }
+        ensures run { self.new.run ≡ self.old.run }
+        ensures entries { self.new.entries ≡ self.old.entries }
+    {
+        match request {
+            Request::Entrust(value) => self.entrust(place, value),
+            Request::Apply(name, op) => self.apply(place, name, op),
+            Request::Launch(name, task) => self.launch(place, name, task),
+            Request::Grant(name, to) => self.grant(place, name, to),
+            Request::Release(name) => self.release(place, name),
+            Request::Reclaim(name) => self.reclaim(place, name),
+            Request::Bye => self.close(place),
+        }
+    }
+
+    fn entrust(&mut self, place: u32, value: S) -> Answer<S>
+        requires { IsServable S.kind place (Entrust value) self.old }
+        ensures served { HasServed S.kind place (Entrust value) result self.old self.new }
+        ensures run { self.new.run ≡ self.old.run }
+        ensures entries { self.new.entries ≡ self.old.entries }
+    {
+        match self.objects.entrust(place, value) {
+            Ok(name) => Answer::Entrusted(name),
+            Err((refusal, value)) => Answer::NotEntrusted(refusal, value),
+        }
+    }
+
+    fn apply(&mut self, place: u32, name: Name, op: S::Op) -> Answer<S>
+        requires { IsServable S.kind place (Apply name op) self.old }
+        ensures served { HasServed S.kind place (Apply name op) result self.old self.new }
+        ensures run { self.new.run ≡ self.old.run }
+        ensures entries { self.new.entries ≡ self.old.entries }
+    {
+        Answer::Replied(self.objects.value_mut(name).run(op))
+    }
+
+    fn launch(&mut self, place: u32, name: Name, task: S::Task) -> Answer<S>
+        requires { IsServable S.kind place (Launch name task) self.old }
+        ensures served { HasServed S.kind place (Launch name task) result self.old self.new }
+        ensures run { self.new.run ≡ self.old.run }
+        ensures entries { self.new.entries ≡ self.old.entries }
+    {
+        if self.tickets >= self.config.last_id {
+            return Answer::TicketsSpent(task);
+        }
+        self.tickets += 1;
+        self.objects.begin(name);
+        self.launched[place as usize].push_reserved(Work {
+            id: name.id,
+            ticket: self.tickets,
+            task,
+        });
+        Answer::Launched(self.tickets)
+    }
+
+    fn grant(&mut self, place: u32, name: Name, to: u32) -> Answer<S>
+        requires { IsServable S.kind place (Grant name to) self.old }
+        ensures served { HasServed S.kind place (Grant name to) result self.old self.new }
+        ensures run { self.new.run ≡ self.old.run }
+        ensures entries { self.new.entries ≡ self.old.entries }
+    {
+        if self.closed[to as usize] {
+            return Answer::Gone;
+        }
+        if self.objects.grant(name, to) {
+            Answer::Granted
+        } else {
+            Answer::GiftsFull
+        }
+    }
+
+    fn release(&mut self, place: u32, name: Name) -> Answer<S>
+        requires { IsServable S.kind place (Release name) self.old }
+        ensures served { HasServed S.kind place (Release name) result self.old self.new }
+        ensures run { self.new.run ≡ self.old.run }
+        ensures entries { self.new.entries ≡ self.old.entries }
+    {
+        let _ = self.objects.release(name, place);
+        Answer::Released
+    }
+
+    fn reclaim(&mut self, place: u32, name: Name) -> Answer<S>
+        requires { IsServable S.kind place (Reclaim name) self.old }
+        ensures served { HasServed S.kind place (Reclaim name) result self.old self.new }
+        ensures run { self.new.run ≡ self.old.run }
+        ensures entries { self.new.entries ≡ self.old.entries }
+    {
+        match self.objects.reclaim(name, place) {
+            Ok(value) => Answer::Reclaimed(value),
+            Err(More) => Answer::Shared,
+        }
+    }
+
+    fn close(&mut self, place: u32) -> Answer<S>
+        requires { IsServable S.kind place Bye self.old }
+        ensures served { HasServed S.kind place Bye result self.old self.new }
+        ensures run { self.new.run ≡ self.old.run }
+        ensures entries { self.new.entries ≡ self.old.entries }
+    {
+        let _ = self.objects.drop_client(place);
+        self.closed[place as usize] = true;
+        Answer::ByeDone
+    }
+}
