@@ -1,4 +1,6 @@
 pub mod Handing
-pub mod Keeping
 pub mod Nothing
+mod Opening
 mod Returning
+mod Stepping
+mod Tabling
