@@ -1,4 +1,4 @@
--- What is in hand after a call of the trustee.
+-- What is in hand after a call of the trustee. Other crates import this file.
 use Rattle.std.proofs.Common.{◌≡◌, ◌≢◌, ℕ, ◌<◌, List, length, sym, ◌∙◌, ap, subst, slice_index_or, get_or-set_same, get_or-set_other}
 use Rattle.std.specs.Prelude.{IsSomeAnd, MatchOption}
 use Rattle.std.specs.declared.option.Option.{Option}

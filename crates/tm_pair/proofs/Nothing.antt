@@ -1,4 +1,4 @@
--- A batch that asks nothing: a good side may send it, and a good trustee's log may grow by it.
+-- A batch that asks nothing: a good side may send it, and a good trustee's log may grow by it. Other crates import this file.
 use Rattle.std.proofs.Common.{◌≡◌, ◌≢◌, ℕ, ◌+◌, ◌-◌, ◌^◌, ◌<◌, ◌≤◌, min, cond, List, [], ◌∷◌, ◌++◌, length, take, refl, sym, ◌∙◌, ap, subst, eq-eqb, append-nil, slice_index_or, get_or-set_same}
 use Rattle.std.specs.Prelude.{IsSomeAnd, MatchOption}
 use Rattle.std.specs.declared.option.Option.{Option}

@@ -1,8 +1,7 @@
 -- The sides of a good core are good. Other crates import this file.
-use Rattle.std.proofs.Common.{◌≡◌, ℕ, ◌-◌, ◌<◌, ◌≤◌, List, [], ◌∷◌, ◌++◌, length, drop, inl, inr, refl, sym, ◌∙◌, ap, subst, arith, append-nil, append_assoc, length-append, eq-eqb}
+use Rattle.std.proofs.Common.{◌≡◌, ℕ, ◌<◌, ◌≤◌, List, [], ◌∷◌, ◌++◌, length, inl, inr, refl, sym, ◌∙◌, ap, subst, arith, append-nil, append_assoc, length-append, eq-eqb}
 use Rattle.std.specs.declared.option.Option.TheVariants.{None, Some}
 use Rattle.std.proofs.Math.ListN.{get_or-map}
-use Rattle.std.proofs.Math.Seq.{drop-append_seam}
 use Rattle.std.proofs.lemmas.List.{length-map, get_or_past}
 use Rattle.std.proofs.lemmas.Bool.{cases_lt}
 use Rattle.tm_seq.specs.Kind.{Kind}
@@ -28,17 +27,7 @@ use Rattle.tm_core.proofs.Tallies.{answers_in-append}
 use Rattle.tm_pair.specs.Views.{BatchView, hand_of}
 use Rattle.tm_pair.specs.Sides.{HasRun, IsGoodClient, IsGoodHand, IsGoodTrustee}
 use Rattle.tm_pair.specs.SideViews.{batch_out, hand_in, client_of, trustee_of}
-
-is_nil : {X : Type 0} (l : List X) → length l ≤ 0 → l ≡ []
-is_nil [] h = refl
-is_nil (x ∷ l) h = let no : ⊥ = omega (arith, h) in absurd no
-
--- the last of a list, as many as were joined to it
-pub last_sent : {X : Type 0} (sent run b : List X) (n : ℕ) → sent ≡ run ++ b → n ≡ length b → drop (length sent - n) sent ≡ b
-last_sent sent run b n is many =
-    let joined = length-append run b in
-    let at : length (run ++ b) - n ≡ length run = omega (arith, joined, many) in
-    ap (λ l. drop (length l - n) l) is ∙ ap (λ k. drop k (run ++ b)) at ∙ drop-append_seam run b
+use Rattle.tm_pair.proofs.Lists.{nil_by_length, last_joined}
 
 module _ {V O R T : Type 0} where
   -- a hand shows a batch that was taken
@@ -110,7 +99,7 @@ module _ {V O R T : Type 0} (kind : Kind V O R T) (opening : State V O R T) wher
       let apart = ran-append mark_of c slot.seen others in
       let counts = ap (λ l. length l) apart in
       let sum = length-append (ran c slot.seen) (ran c others) in
-      let none : ran c others ≡ [] = is_nil (ran c others) (omega (arith, all, before, got, was, grown, joined, one, run, asked, parts, counts, sum, many)) in
+      let none : ran c others ≡ [] = nil_by_length (ran c others) (omega (arith, all, before, got, was, grown, joined, one, run, asked, parts, counts, sum, many)) in
       sent ∙ ap (λ l. l ++ b) (apart ∙ ap (λ l. ran c slot.seen ++ l) none ∙ append-nil (ran c slot.seen))
 
   has_run :
@@ -125,7 +114,7 @@ module _ {V O R T : Type 0} (kind : Kind V O R T) (opening : State V O R T) wher
   has_run (Answered a upto room) slot c log own seen shows out =
       let (b, others, sent, most, many, grown) = out.answers in
       let run = only_the_batch c room slot log upto others a b own shows grown many sent in
-      let last = last_sent slot.sent (ran c slot.seen) b (length a.answers.items) run many in
+      let last = last_joined slot.sent (ran c slot.seen) b (length a.answers.items) run many in
       (run ∙ ap (λ l. ran c slot.seen ++ l) (sym last), subst (λ l. length l ≤ MOST_REQUESTS) (sym last) most, out.most_gifts)
 
   pub client_good :

@@ -24,7 +24,7 @@ use Rattle.tm_pair.specs.Calls.{Publishes, IsPending, Collects, SeesNothing, Tak
 use Rattle.tm_pair.specs.Moves.{FindsAsked, FindsAnswered, answers_found}
 use Rattle.tm_pair.specs.declared.table.Collected.{Collected}
 use Rattle.tm_pair.specs.declared.table.Collected.TheVariants.{Answers, Pending, Idle}
-use Rattle.tm_pair.proofs.Standing.{last_sent}
+use Rattle.tm_pair.proofs.Lists.{last_joined}
 use Rattle.tm_pair.specs.SideViews.{batch_out, hand_in, client_of, trustee_of}
 
 module _ {V O R T : Type 0} where
@@ -142,7 +142,7 @@ module _ {V O R T : Type 0} where
           room,
           record {
             out = ap (λ (x : FullBox V O R T). batch_out x slot.sent) at
-                ∙ ap (λ l. Some (record { requests = l; room = room })) (last_sent slot.sent (ran c (slot.seen ++ others)) b (length a.answers.items) sent many);
+                ∙ ap (λ l. Some (record { requests = l; room = room })) (last_joined slot.sent (ran c (slot.seen ++ others)) b (length a.answers.items) sent many);
             answers = many;
             gifts = out.gifts;
             completions = out.completions;
@@ -221,7 +221,7 @@ module _ {V O R T : Type 0} where
       let slot = slot_of core c in
       same_clients core c (answered a (core.log ++ added core.log resumes c b room a.answers.items) room slot) d lt
       (ap (λ out. record { place = c; sent = slot.sent; got = slot.got; seen = slot.seen; out = out; looks = slot.client })
-      (ap (λ l. Some (record { requests = l; room = room })) (last_sent slot.sent run b (length a.answers.items) sent many)
+      (ap (λ l. Some (record { requests = l; room = room })) (last_joined slot.sent run b (length a.answers.items) sent many)
       ∙ ap (λ (x : FullBox V O R T). batch_out x slot.sent) (sym taken_is)))
 
   pub answers :

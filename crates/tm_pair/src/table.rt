@@ -68,7 +68,7 @@ pub trait PairTable<S: Entrusted> {
 
     /// Sends a batch to the trustee, or hands it back where the last one was not collected. The batch
     /// has to be orderly after what the side sent and got: the side then holds each id that a request
-    /// names, a grant is to a client, at most 64 launches lack their completion, a `Bye` stands alone
+    /// names, a grant is to a client, at most `WINDOW` launches lack their completion, a `Bye` stands alone
     /// and nothing follows it, and a trustee's place sends applies and a `Bye` alone.
     fn publish(&mut self, side: &mut Self::ClientSide, batch: Batch<S>) -> Result<(), Held<S>>
         requires mine { theory.HasClient self.old side.old }
