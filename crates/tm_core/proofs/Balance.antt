@@ -6,7 +6,7 @@ use Rattle.std.proofs.lemmas.Bool.{cases_eq, cases_lt}
 use Rattle.std.proofs.lemmas.List.{get_or_past}
 use Rattle.std.proofs.lemmas.List.Sums.{get_or-le-sum_by, sum_by-set}
 use Rattle.tm_model.specs.State.{Object, holds_of, with_holds, total, change, without, object_of, holds_in}
-use Rattle.tm_core.proofs.Every.{item_within}
+use Rattle.tm_core.proofs.CallerLemmas.{item_within}
 use Rattle.tm_core.proofs.Rising.{RisesTo, holds_sum, holds_are_sum, sum_change, sum_change_other, sum_changed}
 
 -- two places together hold no more than all

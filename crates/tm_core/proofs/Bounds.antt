@@ -17,7 +17,7 @@ use Rattle.tm_model.specs.State.{Start, Work, Object, holds_of, with_holds, tota
 use Rattle.tm_batch.specs.declared.config.First.{First}
 use Rattle.tm_model.specs.Opening.{opened, is_named}
 use Rattle.tm_model.specs.Serve.{works_resumed}
-use Rattle.tm_core.proofs.Every.{all_map, all_each, all_weaker, all_filter, all-append, all_set, all_at}
+use Rattle.tm_core.proofs.CallerLemmas.{all_map, all_each, all_weaker, all_filter, all-append, all_set, all_at}
 use Rattle.tm_core.proofs.Rising.{RisesTo}
 
 pub filter_shorter : {X : Type 0} (p : X → Bool) (xs : List X) → length (filter p xs) ≤ length xs

@@ -21,7 +21,7 @@ use Rattle.tm_model.specs.Serve.{value_run, value_advanced, works_resumed, works
 use Rattle.tm_model.specs.Legal.{HasFirst, Serves, MayCome, IsLegal}
 use Rattle.tm_model.specs.Given.{ended_from}
 use Rattle.tm_model.specs.Laws.{IsOpening, CompletionsAreOfLaunches}
-use Rattle.tm_core.proofs.Every.{weaker_first, found}
+use Rattle.tm_core.proofs.CallerLemmas.{weaker_first, found}
 use Rattle.tm_core.proofs.Weighing.{weigh, weigh_filter, weigh_map, weigh_change_same, weigh-append, weigh_found, weigh_change}
 use Rattle.tm_core.proofs.Bounds.{IsBoundedObject}
 use Rattle.tm_core.proofs.Numbering.{opening_place}

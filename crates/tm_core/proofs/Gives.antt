@@ -24,7 +24,7 @@ use Rattle.tm_core.proofs.Balance.{sum_granted, sum_released, sum_reclaimed, sum
 use Rattle.tm_core.proofs.Living.{completed_live}
 use Rattle.tm_core.proofs.Ordered.{IsOrdered}
 use Rattle.tm_core.proofs.Choices.{cond_same, cond_plus, cond_swap}
-use Rattle.tm_core.proofs.Every.{found, found_both}
+use Rattle.tm_core.proofs.CallerLemmas.{found, found_both}
 use Rattle.tm_core.proofs.Places.{place_field}
 use Rattle.tm_core.proofs.Rising.{holds_sum, sum_change, sum_kept, sum_closed_other}
 use Rattle.tm_core.proofs.Tallies.{gifts_of-append}

@@ -18,7 +18,7 @@ use Rattle.tm_model.specs.Serve.{value_run, value_advanced, works_resumed, works
 use Rattle.tm_model.specs.Legal.{IsLegal}
 use Rattle.tm_model.specs.History.{tasks_resumed, value_told, history_of, lived, first_value}
 use Rattle.tm_model.specs.Laws.{IsOpening, HistoriesTellValues}
-use Rattle.tm_core.proofs.Every.{option_cases}
+use Rattle.tm_core.proofs.CallerLemmas.{option_cases}
 use Rattle.tm_core.proofs.Finding.{found_below}
 use Rattle.tm_core.proofs.Living.{lives, after_goes}
 use Rattle.tm_core.proofs.Absent.{after_past, after_appears, after_next, never_again}

@@ -17,7 +17,7 @@ use Rattle.tm_model.specs.Legal.{Serves, MayCome, HasFirst, IsAwaited}
 use Rattle.tm_model.specs.Holds.{launches_in, spent_in, works_of, unfinished}
 use Rattle.tm_core.proofs.Ordered.{IsOrdered}
 use Rattle.tm_core.proofs.Choices.{cond_same}
-use Rattle.tm_core.proofs.Every.{found, found_both, item_within}
+use Rattle.tm_core.proofs.CallerLemmas.{found, found_both, item_within}
 use Rattle.tm_core.proofs.Living.{completed_live}
 use Rattle.tm_core.proofs.Places.{place_field}
 use Rattle.tm_core.proofs.Unfinished.{works_of-append, no_works, unfinished-append, unfinished_change, unfinished_map, unfinished_kept, unfinished_changed, unfinished_without}

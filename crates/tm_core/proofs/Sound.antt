@@ -20,7 +20,7 @@ use Rattle.tm_model.specs.Opening.{placed_on}
 use Rattle.tm_model.specs.Serve.{served, completed, works_in, works_resumed, value_advanced, after, state_after}
 use Rattle.tm_model.specs.Legal.{Serves, MayCome, IsLegal, IsGiftRefused}
 use Rattle.tm_model.specs.Laws.{IsOpening, StatesAreSound}
-use Rattle.tm_core.proofs.Every.{is_same, found, all_map, all_replicate, all_weaker, all_both, all_filter, all-append, all_set, all_at}
+use Rattle.tm_core.proofs.CallerLemmas.{is_same, found, all_map, all_replicate, all_weaker, all_both, all_filter, all-append, all_set, all_at}
 use Rattle.tm_core.proofs.Bounds.{HasBounds, IsBoundedObject, filter_shorter, resumed_works, all_change, bounds_of, kept_bounded, change_as_long, granted_bounded, released_bounded, closed_bounded, launched_bounded, rises_all, rises_sorted, opened_long, opened_bounded}
 use Rattle.tm_core.proofs.Ordered.{IsOrdered, after_ordered, log_ordered, opening_ordered}
 
