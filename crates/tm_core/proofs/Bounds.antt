@@ -13,6 +13,7 @@ use Rattle.std.proofs.lemmas.List.{length-map}
 use Rattle.std.proofs.lemmas.List.Sums.{get_or-le-sum_by, length-filter, count_by-le-length}
 use Rattle.tm_seq.specs.declared.kind.Next.{Next}
 use Rattle.tm_seq.specs.declared.kind.Next.TheVariants.{Ask, Done}
+use Rattle.tm_batch.specs.declared.limits.TheConstants.{MOST_HOLDS}
 use Rattle.tm_model.specs.State.{Start, Work, Object, holds_of, with_holds, total, change, kept, object_of}
 use Rattle.tm_batch.specs.declared.config.First.{First}
 use Rattle.tm_model.specs.Opening.{opened, is_named}
@@ -106,7 +107,7 @@ module _ {V T : Type 0} where
 
   pub granted_bounded :
       (n d id ticket next : ℕ) (live : List (Object V T)) (x : Object V T) → d < n → RisesTo n 1 next live → object_of live id ≡ Some x
-      → holds_of x d < 4294967295 → AllByRecursion (IsBoundedObject n ticket) live
+      → holds_of x d < MOST_HOLDS → AllByRecursion (IsBoundedObject n ticket) live
       → AllByRecursion (IsBoundedObject n ticket) (change id (λ o. with_holds d (holds_of o d + 1) o) live)
   granted_bounded n d id ticket next live x lt rises at few h =
       all_change_found (IsBoundedObject n ticket) n 1 next id (λ o. with_holds d (holds_of o d + 1) o) live x rises at

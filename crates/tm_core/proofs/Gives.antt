@@ -9,6 +9,7 @@ use Rattle.tm_seq.specs.Kind.{Kind}
 use Rattle.tm_seq.specs.declared.kind.Event.{Event}
 use Rattle.tm_seq.specs.declared.kind.Next.{Next}
 use Rattle.tm_seq.specs.declared.kind.Next.TheVariants.{Ask, Done}
+use Rattle.tm_batch.specs.declared.limits.TheConstants.{MOST_COMPLETIONS}
 use Rattle.tm_batch.specs.declared.message.Name.{Name}
 use Rattle.tm_batch.specs.declared.message.Completion.{Completion}
 use Rattle.tm_batch.specs.declared.message.Request.{Request}
@@ -171,7 +172,7 @@ module _ {V O R T : Type 0} where
   sent_gives c d room s lt =
       elim (cases_eq d c) [
         | inl e ↦
-            let here : place_of (sent_off c room s) c ≡ record (place_of s c) { gifts = drop room (place_of s c).gifts; ready = drop 16 (place_of s c).ready } =
+            let here : place_of (sent_off c room s) c ≡ record (place_of s c) { gifts = drop room (place_of s c).gifts; ready = drop MOST_COMPLETIONS (place_of s c).ready } =
             get_or-set_same s.places c _ no_place lt in
             rw (e, eq-eqb c c refl) (record {
               holds = λ id.

@@ -6,6 +6,7 @@ use Rattle.tm_seq.specs.Kind.{Kind, IsResume}
 use Rattle.tm_seq.specs.declared.kind.Event.{Event}
 use Rattle.tm_seq.specs.declared.kind.Next.{Next}
 use Rattle.tm_seq.specs.declared.kind.Next.TheVariants.{Ask, Done}
+use Rattle.tm_batch.specs.declared.limits.TheConstants.{MOST_COMPLETIONS}
 use Rattle.tm_batch.specs.declared.message.Request.{Request}
 use Rattle.tm_batch.specs.declared.message.Request.TheVariants.{Entrust, Apply, Launch, Grant, Release, Reclaim, Bye}
 use Rattle.tm_batch.specs.declared.message.Answer.{Answer}
@@ -94,14 +95,14 @@ module _ {V O R T : Type 0} where
   -- completions of place d that leave
   pub sent_launches :
       (c d room : ℕ) (s : State V O R T) → c < length s.places
-      → Launches c s (sent_off d room s) 0 (cond (d == c) (length (take 16 (place_of s c).ready)) 0)
+      → Launches c s (sent_off d room s) 0 (cond (d == c) (length (take MOST_COMPLETIONS (place_of s c).ready)) 0)
   sent_launches c d room s lt =
       elim (cases_eq d c) [
         | inl e ↦
-            let here : place_of (sent_off c room s) c ≡ record (place_of s c) { gifts = drop room (place_of s c).gifts; ready = drop 16 (place_of s c).ready } =
+            let here : place_of (sent_off c room s) c ≡ record (place_of s c) { gifts = drop room (place_of s c).gifts; ready = drop MOST_COMPLETIONS (place_of s c).ready } =
             get_or-set_same s.places c _ no_place lt in
-            let left = length-drop 16 (place_of s c).ready in
-            let gone = length-take 16 (place_of s c).ready in
+            let left = length-drop MOST_COMPLETIONS (place_of s c).ready in
+            let gone = length-take MOST_COMPLETIONS (place_of s c).ready in
             rw (e, eq-eqb c c refl, here) (omega (arith, left, gone))
         | inr ne ↦ rw (ne_eqb d c ne, get_or-set_other s.places d c _ no_place (λ e. ne (sym e))) (omega arith)
       ]
