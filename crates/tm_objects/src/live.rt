@@ -1,6 +1,7 @@
 //! All live objects of a trustee.
 ghost use Rattle.std.specs.Prelude.{◌≡◌, ◌+◌, ◌-◌, ◌<◌, ◌≤◌, ◌↔◌, [], ◌∷◌, ◌++◌, map, length, IsTrue, IsSome, IfOk};
 ghost use Rattle.std.specs.Borrow.{sem};
+ghost use Rattle.tm_batch.specs.declared.limits.TheConstants.{MOST_HOLDS};
 ghost use Rattle.tm_objects.specs.Left.{left_of};
 ghost use Rattle.tm_objects.specs.Rising.{IsRising};
 ghost use Rattle.tm_objects.specs.Live.{object_of, holds_of, total, with_holds, with_launches, first_held, change, kept, without, HasLive, count_in, total_in};
@@ -143,7 +144,7 @@ impl<V: Drop> LiveObjects<V> {
 
     /// Adds a hold of a place.
     pub fn hold(&mut self, name: Name, place: u32)
-        requires live { HasLive self.old.live name.id (λ o. (holds_of o place < 4294967295) × (total o < 18446744073709551615)) }
+        requires live { HasLive self.old.live name.id (λ o. (holds_of o place < MOST_HOLDS) × (total o < 18446744073709551615)) }
         requires place { place < self.old.places }
         ensures { self.new ≡ record self.old { live = change name.id (λ o. with_holds place (holds_of o place + 1) o) self.old.live } }
     {

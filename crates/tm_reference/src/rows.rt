@@ -12,11 +12,8 @@ use crate::plain::Plain;
 use crate::refused::NotServed;
 use crate::work::PlainWork;
 use std::alloc::{AllocError, Global};
-use tm_batch::{Answer, Name, Refusal, Request};
+use tm_batch::{Answer, MOST_GIFTS, MOST_HOLDS, Name, Refusal, Request};
 use tm_seq::Entrusted;
-
-// The most gifts that wait for one place.
-const MOST_GIFTS: usize = 1024;
 
 impl<S: Entrusted> Plain<S> {
     pub(crate) fn entrust(
@@ -110,7 +107,7 @@ impl<S: Entrusted> Plain<S> {
         }
         let object = &mut self.live[at];
         let holds = object.holds_of(to);
-        if other.gifts.len() >= MOST_GIFTS || holds == u32::MAX {
+        if other.gifts.len() >= MOST_GIFTS || holds == MOST_HOLDS {
             return Ok(Answer::GiftsFull);
         }
         let Ok(()) = other.give(name) else {

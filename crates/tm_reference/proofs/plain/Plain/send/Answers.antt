@@ -1,4 +1,5 @@
 use Rattle.std.proofs.Common.{◌∙◌, ◌<◌, length, take, ap, arith}
+use Rattle.tm_batch.specs.declared.limits.TheConstants.{MOST_COMPLETIONS}
 use Rattle.tm_model.specs.State.{State, Place, place_count}
 use Rattle.tm_reference.proofs.Leaves.{read_place, sends}
 use Rattle.tm_reference.proofs.plain.Plain.send.Goals as goal
@@ -20,7 +21,7 @@ returns-clause-leaves g c = λ front answers.
     let within : c.args.place < length c.self.inside.places.items = omega (arith, c.if-place-len.false, c.len.ensures, c.self.inside.places.ok.0) in
     let at = read_place c.self.view_is c.args.place _ within c.index_mut-at.ensures.value in (
       c.in-Ok.ensures.gifts ∙ ap (λ (p : Place _ _ _ _). take c.args.room p.gifts) at,
-      c.in-Ok.ensures.completions ∙ ap (λ (p : Place _ _ _ _). take 16 p.ready) at,
+      c.in-Ok.ensures.completions ∙ ap (λ (p : Place _ _ _ _). take MOST_COMPLETIONS p.ready) at,
     )
 
 pub returns-clause-after : goal.returns-clause-after
