@@ -4,7 +4,7 @@ ghost use Rattle.tm_batch.specs.declared.limits.TheConstants.{MOST_ROOM, MOST_CO
 ghost use Rattle.tm_model.specs.State.{no_place};
 ghost use Rattle.tm_reference.specs.Resumed.{IsTold};
 
-use crate::object::PlainObject;
+use crate::object::ReferenceObject;
 use crate::resumed::{Advance, Resumed};
 use std::alloc::{AllocError, Global};
 use std::marker::Model;
@@ -14,14 +14,14 @@ use tm_seq::{Entrusted, Event};
 /// What a place has: how many of its requests were run, whether it is closed, and the gifts and
 /// completions that wait for it.
 #[derive(Drop)]
-pub(crate) struct PlainPlace<S: Entrusted> {
+pub(crate) struct ReferencePlace<S: Entrusted> {
     pub(crate) served: u64,
     pub(crate) is_closed: bool,
     pub(crate) gifts: Vec<Name>,
     pub(crate) ready: Vec<Completion<S>>,
 }
 
-impl<S: Entrusted> Model for PlainPlace<S> {
+impl<S: Entrusted> Model for ReferencePlace<S> {
     ghost use Rattle.tm_model.specs.State.{Place};
 
     ghost Value = { Place S S.Op S.Reply S.Task };
@@ -38,12 +38,12 @@ pub struct Leaving<S: Entrusted> {
     pub completions: Vec<Completion<S>>,
 }
 
-impl<S: Entrusted> PlainPlace<S> {
+impl<S: Entrusted> ReferencePlace<S> {
     /// A place that nothing came to.
-    pub(crate) fn new(alloc: Global) -> PlainPlace<S>
+    pub(crate) fn new(alloc: Global) -> ReferencePlace<S>
         ensures { result ≡ no_place }
     {
-        PlainPlace {
+        ReferencePlace {
             served: 0,
             is_closed: false,
             gifts: Vec::new(alloc),
@@ -72,7 +72,7 @@ impl<S: Entrusted> PlainPlace<S> {
     /// hands the event back for want of memory.
     pub(crate) fn resume(
         &mut self,
-        object: &mut PlainObject<S>,
+        object: &mut ReferenceObject<S>,
         event: Event<S::Reply>,
     ) -> Result<Resumed<S>, Event<S::Reply>>
         requires { object.old.works ≢ [] }
