@@ -2,7 +2,7 @@
 
 mod steps;
 
-use self::steps::{Does, Row, Seen, name, opened, outcome, play};
+use self::steps::{Does, Row, Seen, name, opened, opened_as, outcome, play};
 use std::test::Fail;
 use tm_batch::{Config, Name};
 
@@ -244,6 +244,25 @@ fn a_reclaim_is_shared_while_another_holds(rt: HostRuntime) -> Result<(), Fail> 
         Row(1, Does::Release(1), Seen::Released),
         Row(0, Does::Reclaim(1), Seen::Reclaimed(5)),
         Row(0, Does::Entrust(1), Seen::Entrusted(3)),
+    ];
+    play(&rt, alloc, &mut trustee, &rows);
+    Ok(())
+}
+
+#[test]
+fn a_trustee_applies_at_a_greater_one(rt: HostRuntime) -> Result<(), Fail> {
+    let alloc = rt.alloc();
+    // Place 2 is trustee 0's.
+    let mut trustee = opened_as(alloc, SMALL, 1, &[(0, 4, &[0]), (1, 5, &[2, 1])])?;
+    let rows = [
+        Row(2, Does::Add(1, 3), Seen::Is(8)),
+        Row(1, Does::Read(1), Seen::Is(8)),
+        Row(0, Does::Read(1), Seen::NotLegal),
+        Row(1, Does::Grant(1, 2), Seen::NotLegal),
+        Row(2, Does::Bye, Seen::ByeDone),
+        Row(2, Does::Read(1), Seen::NotLegal),
+        Row(1, Does::Reclaim(1), Seen::Reclaimed(8)),
+        Row(3, Does::Bye, Seen::NotLegal),
     ];
     play(&rt, alloc, &mut trustee, &rows);
     Ok(())

@@ -175,6 +175,16 @@ pub(super) fn opened(
     config: Config,
     objects: &[(u32, u64, &[u32])],
 ) -> Result<ReferenceTrustee<Counter>, AllocError> {
+    opened_as(alloc, config, 0, objects)
+}
+
+// The trustee of a number.
+pub(super) fn opened_as(
+    alloc: Global,
+    config: Config,
+    number: u32,
+    objects: &[(u32, u64, &[u32])],
+) -> Result<ReferenceTrustee<Counter>, AllocError> {
     let mut first = Vec::new(alloc);
     for (trustee, value, holders) in objects {
         first.push(First {
@@ -183,5 +193,5 @@ pub(super) fn opened(
             holders: Holders::new(Vec::from_slice(alloc, holders)?),
         })?;
     }
-    ReferenceTrustee::open(alloc, config, 0, first)
+    ReferenceTrustee::open(alloc, config, number, first)
 }
