@@ -123,6 +123,18 @@ impl<V: Drop> LiveObjects<V> {
         locate(&self.slots, name).is_some()
     }
 
+    /// The name with the place where its object stands, by which other calls find it at once.
+    pub fn placed(&self, name: Name) -> Name
+        requires { IsSome (object_of self.now.live name.id) }
+        ensures { result.id ≡ name.id }
+    {
+        let key = key_of(&self.slots, name);
+        Name {
+            id: name.id,
+            place: u32::try_from(key).unwrap_or(u32::MAX),
+        }
+    }
+
     /// How many holds a place has on an object.
     pub fn count(&self, name: Name, place: u32) -> u32
         requires live { IsSome (object_of self.now.live name.id) }

@@ -133,10 +133,14 @@ impl<S: Entrusted> Objects<S> {
         ensures waiting { MOST_GIFTS ≤ length (gifts_of self.old.gifts to) → (result ≡ false) × (self.new ≡ self.old) }
         ensures held { MOST_HOLDS ≤ count_in (object_of self.old.live name.id) to → (result ≡ false) × (self.new ≡ self.old) }
     {
-        if self.gifts.is_full(to) || self.live.count(name, to) == MOST_HOLDS {
+        if self.gifts.is_full(to) {
             return false;
         }
-        self.live.hold(name, to);
+        let found = self.live.placed(name);
+        if self.live.count(found, to) == MOST_HOLDS {
+            return false;
+        }
+        self.live.hold(found, to);
         self.gifts.push(to, name);
         true
     }
@@ -184,10 +188,11 @@ impl<S: Entrusted> Objects<S> {
         ensures last { total_in (object_of self.old.live name.id) ≡ 1 → IsOkAnd result (λ v. HasLive self.old.live name.id (λ o. v ≡ o.value)) × (self.new ≡ reclaimed name.id self.old) }
         ensures more { total_in (object_of self.old.live name.id) ≢ 1 → IsErr result × (self.new ≡ self.old) }
     {
-        if self.live.total(name) != 1 {
+        let found = self.live.placed(name);
+        if self.live.total(found) != 1 {
             return Err(More);
         }
-        Ok(self.live.take_out(name, place))
+        Ok(self.live.take_out(found, place))
     }
 
     /// The value of an object.
