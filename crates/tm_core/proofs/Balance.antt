@@ -1,4 +1,4 @@
--- What an entry does to the holds of a place on an id, and to the gifts that wait for it.
+-- A place's holds on an id, summed over the live objects, where a hold is granted, released or reclaimed or an object is added.
 use Rattle.std.proofs.Common.{◌≡◌, ◌≢◌, ℕ, ◌+◌, ◌-◌, ◌<◌, ◌≤◌, ◌⊎◌, true, false, cond, List, [], ◌∷◌, ◌++◌, length, slice_index_or, slice_set, sum, length-set, inl, inr, refl, sym, ◌∙◌, ap, arith, eq-eqb, ne_eqb, get_or-set_same, get_or-set_other, add-zero}
 use Rattle.std.specs.Prelude.{◌==◌}
 use Rattle.std.specs.declared.option.Option.TheVariants.{Some}

@@ -1,4 +1,5 @@
--- What a change of the live objects keeps of them: their bounds, and that each has a hold or an unfinished launch.
+-- What a change of the live objects keeps of them: holds of 32 bits, places and tickets in range, a hold or a launch, and ids that rise.
+-- Other crates import from this file.
 use Rattle.std.proofs.Common.{◌≡◌, ◌≢◌, ℕ, ◌+◌, ◌-◌, ◌^◌, ◌<◌, ◌≤◌, Bool, true, false, not, cond, List, [], ◌∷◌, ◌++◌, length, map, filter, slice_index_or, slice_set, sum, inl, inr, refl, sym, ◌∙◌, ap, subst, arith, eq-eqb, ne_eqb, length-set, length-append, get_or-set_same}
 use Rattle.std.specs.Prelude.{◌==◌, ◌||◌}
 use Rattle.std.specs.List.{AllByRecursion, range_with_len, list_any}

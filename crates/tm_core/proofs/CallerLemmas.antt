@@ -1,4 +1,6 @@
--- Small lemmas: numbers, options, first launches, and what holds of all items of a list that is changed.
+-- Lemmas that know of no log: `is_same` and `item_within` on numbers, `option_cases`, `found` and `found_both` on options, two on first
+-- launches, and `all_*` on what holds of all items of a list that is mapped, filtered, joined, set or repeated.
+-- Other crates import from this file.
 use Rattle.std.proofs.Common.{◌≡◌, ℕ, zero, suc, Bool, true, false, cond, List, [], ◌∷◌, ◌++◌, map, filter, slice_index_or, slice_set, inl, inr, refl, ne_eqb, ◌≤◌, ◌⊎◌, length, sum, arith}
 use Rattle.std.specs.Prelude.{◌==◌}
 use Rattle.std.proofs.lemmas.Bool.{cases_eq, cases_lt}

@@ -1,4 +1,5 @@
--- What a place holds, and the gifts that wait for it: what each entry does to them.
+-- Each entry takes from a place's holds what its requests give away, and adds what their answers and the gifts that leave bring.
+-- Other crates import from this file.
 use Rattle.std.proofs.Common.{◌≡◌, ◌≢◌, ℕ, zero, suc, ◌+◌, ◌-◌, ◌<◌, ◌≤◌, true, cond, List, [], ◌∷◌, ◌++◌, length, map, slice_index_or, slice_set, take, drop, inl, inr, refl, sym, ◌∙◌, ap, arith, eq-eqb, ne_eqb, get_or-set_same, get_or-set_other, IsFalse}
 use Rattle.std.specs.Prelude.{◌==◌}
 use Rattle.std.specs.declared.option.Option.TheVariants.{Some}

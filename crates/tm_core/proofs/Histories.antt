@@ -1,4 +1,4 @@
--- The value and the unfinished tasks of a live object are what its history leaves.
+-- The value and the unfinished tasks of a live object are what its history leaves of the value with which it was entrusted.
 use Rattle.std.proofs.Common.{◌≡◌, ℕ, ◌+◌, true, false, cond, List, [], ◌∷◌, ◌++◌, map, inl, inr, refl, sym, ◌∙◌, ap, subst, arith, eq-eqb, ne_eqb}
 use Rattle.std.proofs.lemmas.Bool.{cases_eq}
 use Rattle.std.specs.Prelude.{◌==◌}

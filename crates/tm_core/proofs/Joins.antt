@@ -1,4 +1,5 @@
--- Logs that are joined: which are legal, what leaves by them, and how an answer makes them grow.
+-- Logs that are joined: the two are legal, their states and what leaves by them go on, and an answer adds one batch of its place.
+-- Other crates import from this file.
 use Rattle.std.proofs.Common.{◌≡◌, ◌≢◌, ℕ, suc, ◌+◌, Bool, true, false, cond, List, [], ◌∷◌, ◌++◌, length, refl, sym, ◌∙◌, ap, arith, eq-eqb, ne_eqb, append_assoc, append-nil, ◌≤◌, length-take}
 use Rattle.std.specs.Prelude.{◌==◌}
 use Rattle.tm_seq.specs.Kind.{Kind}

@@ -1,4 +1,4 @@
--- Launched work on one object does not overlap.
+-- The resumes of one object are whole runs of its tickets in their order, and at most one open run behind them.
 use Rattle.std.proofs.Common.{◌≡◌, ℕ, ◌⊎◌, true, false, cond, List, [], ◌∷◌, ◌++◌, map, inl, inr, refl, sym, ap, subst, eq-eqb, ne_eqb}
 use Rattle.std.specs.Prelude.{◌==◌}
 use Rattle.std.specs.List.{AllByRecursion}

@@ -1,4 +1,5 @@
--- What a legal log does to the launches of a place, from any state on.
+-- A legal log, from any state on: the launches that it ran are open, or ended by what left or waits.
+-- Other crates import from this file.
 use Rattle.std.proofs.Common.{◌≡◌, ℕ, ◌+◌, ◌<◌, true, false, cond, List, [], ◌∷◌, ◌++◌, length, take, arith}
 use Rattle.std.specs.Prelude.{◌==◌}
 use Rattle.tm_seq.specs.Kind.{Kind}

@@ -1,4 +1,4 @@
--- What an entry does to the value and the unfinished launches of one object.
+-- An entry's change of the value and the unfinished launches of the object of one id, which goes only with none left.
 use Rattle.std.proofs.Common.{◌≡◌, ℕ, ◌+◌, ◌-◌, ◌⊎◌, true, false, not, cond, List, [], ◌∷◌, ◌++◌, length-set, inl, inr, refl, sym, ◌∙◌, ap, arith, eq-eqb, ne_eqb}
 use Rattle.std.specs.Prelude.{◌==◌}
 use Rattle.std.specs.declared.option.Option.{Option}

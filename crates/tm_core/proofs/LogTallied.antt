@@ -1,4 +1,5 @@
--- A legal log is tallied for each place to which all answers left, so an answer keeps the core good.
+-- A settled legal log is tallied for its place (`log_tallied`), and so an answer keeps the core good (`answer_keeps_good`).
+-- Other crates import from this file.
 use Rattle.std.proofs.Common.{◌≡◌, ◌<◌, ℕ, List, [], ◌∷◌, ◌++◌, length, sym, ◌∙◌, ap, arith, append-nil}
 use Rattle.tm_seq.specs.Kind.{Kind}
 use Rattle.tm_batch.specs.declared.message.Request.{Request}

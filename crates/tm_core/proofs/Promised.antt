@@ -1,4 +1,5 @@
--- What a good core tells of each batch that is asked or taken.
+-- What a good core tells of each batch that is asked or taken, and that an id which a place holds is live.
+-- Other crates import from this file.
 use Rattle.std.proofs.Common.{◌≡◌, ◌≢◌, ℕ, ◌+◌, ◌-◌, ◌<◌, ◌≤◌, true, false, not, cond, List, [], ◌∷◌, ◌++◌, length, map, slice_set, inl, inr, refl, sym, ◌∙◌, ap, subst, arith, eq-eqb, length-append, get_or-set_same, get_or-set_other}
 use Rattle.std.proofs.lemmas.List.{set_past}
 use Rattle.std.specs.Prelude.{◌==◌}

@@ -1,4 +1,5 @@
--- A legal log leaves a sound state.
+-- `IsBounded`, kept by each entry; with `IsOrdered` it makes the state that a legal log leaves sound.
+-- Other crates import from this file.
 use Rattle.std.proofs.Common.{◌≡◌, ◌≢◌, ℕ, ◌+◌, ◌-◌, ◌^◌, ◌<◌, ◌≤◌, true, not, List, [], ◌∷◌, ◌++◌, length, map, slice_index_or, slice_set, inl, inr, refl, ◌∙◌, subst, arith, length-set, length-append, length-drop, get_or-set_same}
 use Rattle.std.specs.Prelude.{◌==◌}
 use Rattle.std.specs.List.{AllByRecursion}

@@ -1,4 +1,4 @@
--- What the slots and the tallies of a log say of a place, and how an answer keeps the core good where the longer log is tallied.
+-- `IsTallied`: what a settled log says of a place; with good slots the place is accounted for, so an answer keeps the core good.
 use Rattle.std.proofs.Common.{◌≡◌, ◌≢◌, ℕ, ◌+◌, ◌<◌, ◌≤◌, true, List, [], ◌∷◌, ◌++◌, length, slice_index_or, slice_set, inl, inr, sym, ◌∙◌, ap, subst, arith, get_or-set_same, get_or-set_other, length-set, append_assoc, append-nil, length-append}
 use Rattle.std.proofs.lemmas.Bool.{cases_eq}
 use Rattle.tm_seq.specs.Kind.{Kind}

@@ -1,4 +1,4 @@
--- What the cells tell of which steps are allowed.
+-- The machine's tests on its cells decide which steps are allowed of the core that the cells show.
 use Rattle.std.proofs.Common.{◌≡◌, ◌↔◌, ℕ, ◌<◌, ◌≤◌, Bool, true, false, leb, ltb, IsTrue, Vec, Global, List, length, slice_index_or, refl, sym, ◌∙◌, ap, arith}
 use Rattle.std.proofs.lemmas.Bool.Decides.{nat_tests}
 use Rattle.tm_batch.specs.declared.limits.TheConstants.{MOST_REQUESTS}
