@@ -1,7 +1,7 @@
 //! A clerk, the second kind, which stands beside a shelf.
 ghost use Rattle.std.specs.Prelude.{◌≡◌, refl};
 ghost use Rattle.std.proofs.Common.{lit<};
-ghost use Rattle.tm_seq.specs.Kind.{IsResume};
+ghost use Rattle.tm_seq.specs.Kind.{IsRun, IsResume};
 ghost use Rattle.tm_probe.specs.Clerks.{clerk_kind, clerk_next};
 ghost use Rattle.tm_probe.specs.Laws.{clerk_laws};
 ghost use Rattle.tm_probe.specs.declared.shelf.ShelfReply.TheVariants.{NotHere};
@@ -58,7 +58,11 @@ impl Entrusted for Clerk {
 
     ghost laws = { clerk_laws };
 
-    fn run(&mut self, _op: ShelfOp) -> ShelfReply {
+    // A clerk takes no memory, so it says more than its kind.
+    fn run(&mut self, _op: ShelfOp) -> ShelfReply
+        ensures lawful { IsRun clerk_kind self.old _op self.new result }
+        ensures exact { (self.new, result) ≡ clerk_kind.step self.old _op }
+    {
         ShelfReply::NotHere
     }
 
@@ -67,7 +71,8 @@ impl Entrusted for Clerk {
         task: ClerkTask,
         event: Event<ShelfReply>,
     ) -> Next<ShelfOp, ClerkTask, ShelfReply>
-        ensures { IsResume clerk_kind self.old task event self.new result }
+        ensures lawful { IsResume clerk_kind self.old task event self.new result }
+        ensures exact { (self.new, result) ≡ clerk_kind.advance self.old task event }
     {
         match event {
             Event::Begin => go_on(task),

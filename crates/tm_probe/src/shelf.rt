@@ -1,5 +1,6 @@
 //! A shelf, the first kind.
-ghost use Rattle.tm_seq.specs.Kind.{IsResume};
+ghost use Rattle.std.specs.Prelude.{◌≡◌};
+ghost use Rattle.tm_seq.specs.Kind.{IsRun, IsResume};
 ghost use Rattle.tm_probe.specs.Shelves.{shelf_kind};
 ghost use Rattle.tm_probe.specs.Laws.{shelf_laws};
 
@@ -47,7 +48,11 @@ impl Entrusted for Shelf {
 
     ghost laws = { shelf_laws };
 
-    fn run(&mut self, op: ShelfOp) -> ShelfReply {
+    // A shelf takes no memory, so it says more than its kind.
+    fn run(&mut self, op: ShelfOp) -> ShelfReply
+        ensures lawful { IsRun shelf_kind self.old op self.new result }
+        ensures exact { (self.new, result) ≡ shelf_kind.step self.old op }
+    {
         match op {
             ShelfOp::Put(books) => self.books = books,
             ShelfOp::Count => {}
@@ -60,7 +65,8 @@ impl Entrusted for Shelf {
         task: NoTask,
         event: Event<ShelfReply>,
     ) -> Next<ShelfOp, NoTask, ShelfReply>
-        ensures { IsResume shelf_kind self.old task event self.new result }
+        ensures lawful { IsResume shelf_kind self.old task event self.new result }
+        ensures exact { (self.new, result) ≡ shelf_kind.advance self.old task event }
     {
         let _ = (task, event);
         Next::Done {
