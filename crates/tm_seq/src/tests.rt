@@ -78,6 +78,8 @@ fn a_sum_runs_the_side_of_its_value(rt: HostRuntime) {
         )
     );
     assert!(rt; matches!(value, Sum::Second(Counter { value: 7 })));
+    value = Sum::First(Counter { value: 1 });
+    assert!(rt; matches!(value.run(CounterOp::Add(2)), CounterReply::Is(3)));
 }
 
 #[test]
