@@ -18,8 +18,8 @@ use tm_base::{Clock, Failed, Gate, Sink, write_all};
 /// A reading of the clock above this counts as this.
 const LATEST: u64 = 1 << 62;
 
-/// So many bytes are gathered, at most one reply more, before they are written.
-const FULL: usize = 65_536;
+/// Where at least so many bytes are gathered, they are to be written: an output is full then.
+pub const FULL: usize = 65_536;
 
 /// What a session has: the classes, its moment, and the bytes that are still to be written. It is seen as these.
 pub struct Session {
@@ -110,9 +110,9 @@ impl Session {
         render(&fault_shown(fault), &mut self.out)
     }
 
-    /// Whether at least 65,536 bytes are gathered.
+    /// Whether at least [`FULL`] bytes are gathered.
     pub fn is_full(&self) -> bool
-        ensures { IsTrue result ↔ (65536 ≤ length self.now.out) }
+        ensures { IsTrue result ↔ (FULL ≤ length self.now.out) }
     {
         self.out.len() >= FULL
     }

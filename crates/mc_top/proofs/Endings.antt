@@ -26,7 +26,7 @@ use Rattle.mc_top.specs.declared.stop.Stop.TheVariants as stop
 use Rattle.mc_top.specs.Input.{CameSoFar, CameWhole}
 use Rattle.mc_top.specs.Answering.{IsServed, IsCut}
 use Rattle.mc_top.specs.Ends.{status_of, IsEndAt}
-use Rattle.mc_top.specs.Runs.{told, Outputs, AreAnswered, IsReadAs, IsAnswered, IsBegun, EndsBetween, EndsInside, EndsEarly, EndsFailed, Does}
+use Rattle.mc_top.specs.Runs.{views, Outputs, AreAnswered, IsReadAs, IsAnswered, IsBegun, EndsBetween, EndsInside, EndsEarly, EndsFailed, Does}
 use Rattle.mc_top.proofs.Quitting.{until_front, until_there, has_front}
 
 -- the plain store has the replies of the classes
@@ -36,7 +36,7 @@ outputs_of messages readings replies classes run =
     record { replies = replies; store = p.0; runs = p.1; shows = refl }
 
 module _ (most : ℕ) (input input_new clock clock_new written written_new : Option (List ℕ)) where
-  answered : (bytes : List ℕ) (quit : Bool) (reader : Progress) (session : Serving) (s : IsServed bytes quit clock clock_new written written_new reader session) → session.out ≡ [] → AreAnswered s.messages (told input clock written) (told input_new clock_new written_new)
+  answered : (bytes : List ℕ) (quit : Bool) (reader : Progress) (session : Serving) (s : IsServed bytes quit clock clock_new written written_new reader session) → session.out ≡ [] → AreAnswered s.messages (views input clock written) (views input_new clock_new written_new)
   answered bytes quit reader session s out = record {
     readings = s.readings;
     output = rendered (shown_of_all s.messages s.replies);
@@ -47,38 +47,38 @@ module _ (most : ℕ) (input input_new clock clock_new written written_new : Opt
 
   -- the bytes within the limit are served, and there is no `quit` among them
   module _ (text : List ℕ) (reader : Progress) (session : Serving) (s : IsServed (take most text) false clock clock_new written written_new reader session) (out : session.out ≡ []) (unfinished : IsUnfinished reader) (came : CameSoFar input input_new text) where
-    read_as : IsReadAs most (told input clock written) (told input_new clock_new written_new) text s.messages s.is_read.held
+    read_as : IsReadAs most (views input clock written) (views input_new clock_new written_new) text s.messages s.is_read.held
     unfolding ReadsRest
     read_as = record { came = came; reads = reads_rest reader unfinished (take most text) s.messages s.is_read }
 
-    ended : (Ends : List ℕ → List Message → List ℕ → Type 0) → Ends text s.messages s.is_read.held → IsAnswered most (told input clock written) (told input_new clock_new written_new) Ends
+    ended : (Ends : List ℕ → List Message → List ℕ → Type 0) → Ends text s.messages s.is_read.held → IsAnswered most (views input clock written) (views input_new clock_new written_new) Ends
     ended Ends ends = record {
       text = text;
       messages = s.messages;
       rest = s.is_read.held;
       is_read = read_as;
       ends = ends;
-      answered = subst (λ (ms : List Message). AreAnswered ms (told input clock written) (told input_new clock_new written_new)) (sym s.until) (answered (take most text) false reader session s out);
+      answered = subst (λ (ms : List Message). AreAnswered ms (views input clock written) (views input_new clock_new written_new)) (sym s.until) (answered (take most text) false reader session s out);
     }
 
-    pub ends_early : most < length text → Does most (status_of (Ok TooMuch)) (told input clock written) (told input_new clock_new written_new)
+    pub ends_early : most < length text → Does most (status_of (Ok TooMuch)) (views input clock written) (views input_new clock_new written_new)
     ends_early above = ended (EndsEarly most) (s.has, above)
 
-    pub ends_failed : length text ≤ most → Does most (status_of (Err stop.ReadFault)) (told input clock written) (told input_new clock_new written_new)
+    pub ends_failed : length text ≤ most → Does most (status_of (Err stop.ReadFault)) (views input clock written) (views input_new clock_new written_new)
     ends_failed fits = ended (EndsFailed most) (s.has, fits)
 
-    pub ends_over : length text ≤ most → CameWhole input input_new text → (end : End) → IsEndAt reader end → Does most (status_of (Ok end)) (told input clock written) (told input_new clock_new written_new)
+    pub ends_over : length text ≤ most → CameWhole input input_new text → (end : End) → IsEndAt reader end → Does most (status_of (Ok end)) (views input clock written) (views input_new clock_new written_new)
     ends_over fits whole Between at =
-        ended (EndsBetween most (told input clock written) (told input_new clock_new written_new))
+        ended (EndsBetween most (views input clock written) (views input_new clock_new written_new))
         (inr (record { came = whole; fits = fits; no_quit = s.has }, at s.is_read.held s.is_read.goes))
     ends_over fits whole Inside at =
-        ended (EndsInside most (told input clock written) (told input_new clock_new written_new))
+        ended (EndsInside most (views input clock written) (views input_new clock_new written_new))
         (record { came = whole; fits = fits; no_quit = s.has }, at s.is_read.held s.is_read.goes)
     ends_over fits whole TooMuch at = absurd at
 
   -- some of the bytes within the limit, with those behind them
   module _ (text bytes more : List ℕ) (parts : take most text ≡ bytes ++ more) (came : CameSoFar input input_new text) where
-    pub ends_quit : (reader : Progress) (session : Serving) → IsServed bytes true clock clock_new written written_new reader session → session.out ≡ [] → IsUnfinished reader → Does most (status_of (Ok Between)) (told input clock written) (told input_new clock_new written_new)
+    pub ends_quit : (reader : Progress) (session : Serving) → IsServed bytes true clock clock_new written written_new reader session → session.out ≡ [] → IsUnfinished reader → Does most (status_of (Ok Between)) (views input clock written) (views input_new clock_new written_new)
     unfolding ReadsRest
     ends_quit reader session s out unfinished =
         let e = reads_extend bytes more s.messages s.is_read.held (reads_rest reader unfinished bytes s.messages s.is_read) in
@@ -88,10 +88,10 @@ module _ (most : ℕ) (input input_new clock clock_new written written_new : Opt
           rest = e.1;
           is_read = record { came = came; reads = subst (λ (b : List ℕ). Reads b (s.messages ++ e.0) e.1) (sym parts) e.2 };
           ends = inl (has_front s.messages e.0 s.has);
-          answered = subst (λ (ms : List Message). AreAnswered ms (told input clock written) (told input_new clock_new written_new)) (sym (until_there s.messages e.0 s.has s.until)) (answered bytes true reader session s out);
+          answered = subst (λ (ms : List Message). AreAnswered ms (views input clock written) (views input_new clock_new written_new)) (sym (until_there s.messages e.0 s.has s.until)) (answered bytes true reader session s out);
         }
 
-    begun : IsCut bytes clock clock_new written written_new → IsBegun most (told input clock written) (told input_new clock_new written_new)
+    begun : IsCut bytes clock clock_new written written_new → IsBegun most (views input clock written) (views input_new clock_new written_new)
     begun c =
         let e = reads_extend bytes more c.messages c.rest c.is_read in
         record {
@@ -113,7 +113,7 @@ module _ (most : ℕ) (input input_new clock clock_new written written_new : Opt
           };
         }
 
-    pub ends_cut : (why : Stop) → why ≢ stop.ReadFault → IsCut bytes clock clock_new written written_new → Does most (status_of (Err why)) (told input clock written) (told input_new clock_new written_new)
+    pub ends_cut : (why : Stop) → why ≢ stop.ReadFault → IsCut bytes clock clock_new written written_new → Does most (status_of (Err why)) (views input clock written) (views input_new clock_new written_new)
     ends_cut stop.NoMemory not c = begun c
     ends_cut stop.ReadFault not c = absurd (not refl)
     ends_cut stop.WriteFault not c = begun c

@@ -6,3 +6,4 @@ pub mod Sources
 pub mod Going
 pub mod Endings
 pub mod Rounds
+mod Cases

@@ -15,7 +15,7 @@ use Rattle.mc_top.specs.declared.stop.Stop.TheVariants as stop
 use Rattle.mc_top.specs.Input.{CameSoFar}
 use Rattle.mc_top.specs.Answering.{is_quit_heard, IsServed, ServesOn, AnswersPiece, CutsOff}
 use Rattle.mc_top.specs.Ends.{status_of, IsEndAt}
-use Rattle.mc_top.specs.Runs.{told, Does}
+use Rattle.mc_top.specs.Runs.{views, Does}
 use Rattle.mc_top.proofs.Going.{IsGoing}
 use Rattle.mc_top.proofs.Servings.{none_served}
 use Rattle.mc_top.proofs.Cuts.{cut_here}
@@ -37,7 +37,7 @@ first_going most input clock written = record {
 }
 
 -- memory was wanting before anything was read
-pub ends_unbegun : (most : ℕ) (input clock written : Option (List ℕ)) → Does most (status_of (Err stop.NoMemory)) (told input clock written) (told input clock written)
+pub ends_unbegun : (most : ℕ) (input clock written : Option (List ℕ)) → Does most (status_of (Err stop.NoMemory)) (views input clock written) (views input clock written)
 ends_unbegun most input clock written =
     ends_cut most input input clock clock written written [] [] (take most []) refl (none_came input) stop.NoMemory (λ e. absurd (cc))
     (cut_here [] false clock clock written written Start first_serving (none_served clock written) start_unfinished)
@@ -49,10 +49,10 @@ module _ (most left : ℕ) (input input_now input_new clock clock_now written wr
   served_all : IsServed (take most g.text) false clock clock_now written written_now reader session
   served_all = subst (λ (b : List ℕ). IsServed b false clock clock_now written written_now reader session) (sym (take_all most g.text fits)) g.served
 
-  pub read_failed : Stays input_now input_new → Does most (status_of (Err stop.ReadFault)) (told input clock written) (told input_new clock_now written_now)
+  pub read_failed : Stays input_now input_new → Does most (status_of (Err stop.ReadFault)) (views input clock written) (views input_new clock_now written_now)
   read_failed stays = ends_failed most input input_new clock clock_now written written_now g.text reader session served_all g.out g.unfinished (same_came input input_now input_new g.text g.came stays) fits
 
-  pub read_ended : (buffer : List ℕ) (n : ℕ) → n ≡ 0 → Gives input_now input_new n buffer → IsEmptyWhereTold input_now → (end : End) → IsEndAt reader end → Does most (status_of (Ok end)) (told input clock written) (told input_new clock_now written_now)
+  pub read_ended : (buffer : List ℕ) (n : ℕ) → n ≡ 0 → Gives input_now input_new n buffer → IsEmptyWhereTold input_now → (end : End) → IsEndAt reader end → Does most (status_of (Ok end)) (views input clock written) (views input_new clock_now written_now)
   read_ended buffer n none gives empty end at =
       let whole = all_came input input_now input_new g.text buffer n g.came none gives empty in
       ends_over most input input_new clock clock_now written written_now g.text reader session served_all g.out g.unfinished (whole_so_far input input_new g.text whole) fits whole end at
@@ -67,7 +67,7 @@ module _ (most left : ℕ) (input input_now input_new clock clock_now written wr
     parts : (count : ℕ) → take most (g.text ++ take n buffer) ≡ (g.text ++ take count piece) ++ drop count piece
     parts count = limited ∙ ap (λ (b : List ℕ). g.text ++ b) (sym (take-append-drop count piece)) ∙ sym (append_assoc g.text (take count piece) (drop count piece))
 
-    pub piece_cut : (clock_new written_new : Option (List ℕ)) (why : Stop) → why ≢ stop.ReadFault → CutsOff reader session piece clock_now clock_new written_now written_new → Does most (status_of (Err why)) (told input clock written) (told input_new clock_new written_new)
+    pub piece_cut : (clock_new written_new : Option (List ℕ)) (why : Stop) → why ≢ stop.ReadFault → CutsOff reader session piece clock_now clock_new written_now written_new → Does most (status_of (Err why)) (views input clock written) (views input_new clock_new written_new)
     unfolding CutsOff
     piece_cut clock_new written_new why not c =
         ends_cut most input input_new clock clock_new written written_new (g.text ++ take n buffer) (g.text ++ take c.0 piece) (drop c.0 piece) (parts c.0) came_now why not (c.1 g.text clock written g.served)
@@ -77,7 +77,7 @@ module _ (most left : ℕ) (input input_now input_new clock clock_now written wr
       unfolding ServesOn
       served_now h e = subst (λ (k : Heard). IsServed (g.text ++ take a.count piece) (is_quit_heard k) clock clock_new written written_new q t) e (a.serves g.text clock written g.served)
 
-      pub quit_ends : heard ≡ Quit → Does most (status_of (Ok Between)) (told input clock written) (told input_new clock_new written_new)
+      pub quit_ends : heard ≡ Quit → Does most (status_of (Ok Between)) (views input clock written) (views input_new clock_new written_new)
       quit_ends e =
           ends_quit most input input_new clock clock_new written written_new (g.text ++ take n buffer) (g.text ++ take a.count piece) (drop a.count piece) (parts a.count) came_now q t
           (served_now Quit e) out unfinished
@@ -85,7 +85,7 @@ module _ (most left : ℕ) (input input_now input_new clock clock_now written wr
       served_all_now : heard ≡ All → IsServed (g.text ++ piece) false clock clock_new written written_new q t
       served_all_now e = subst (λ (b : List ℕ). IsServed (g.text ++ b) false clock clock_new written written_new q t) (a.whole e) (served_now All e)
 
-      pub too_much : heard ≡ All → min n left < n → Does most (status_of (Ok TooMuch)) (told input clock written) (told input_new clock_new written_new)
+      pub too_much : heard ≡ All → min n left < n → Does most (status_of (Ok TooMuch)) (views input clock written) (views input_new clock_new written_new)
       too_much e short =
           ends_early most input input_new clock clock_new written written_new (g.text ++ take n buffer) q t
           (subst (λ (b : List ℕ). IsServed b false clock clock_new written written_new q t) (sym limited) (served_all_now e)) out unfinished came_now

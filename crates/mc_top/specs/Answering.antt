@@ -1,5 +1,5 @@
 -- What a connection has answered of a stream.
-use Rattle.std.specs.Prelude.{◌≡◌, ℕ, ◌≤◌, Bool, true, false, List, ◌++◌, length, take, Option, Some}
+use Rattle.std.specs.Prelude.{◌≡◌, ℕ, ◌<◌, ◌≤◌, Bool, true, false, List, ◌++◌, length, take, Option, Some}
 use Rattle.std.specs.List.{fold}
 use Rattle.tm_base.specs.Visible.{Grows}
 use Rattle.mc_model.specs.declared.message.Message.{Message}
@@ -16,6 +16,7 @@ use Rattle.mc_grammar.specs.declared.reader.Next.TheVariants as next
 use Rattle.mc_grammar.specs.Reading.{IsRead}
 use Rattle.mc_laws.specs.Classes.{new_classes}
 use Rattle.mc_laws.specs.Replies.{ClassesRun}
+use Rattle.mc_session.specs.declared.session.TheConstants.{FULL}
 use Rattle.mc_session.specs.Session.{Serving, with_shown, Answered}
 use Rattle.mc_top.specs.declared.answering.Heard.{Heard}
 use Rattle.mc_top.specs.declared.answering.Heard.TheVariants.{All, Quit}
@@ -24,6 +25,10 @@ use Rattle.mc_top.specs.declared.answering.Heard.TheVariants.{All, Quit}
 abbrev pub is_quit_heard : Heard → Bool
 is_quit_heard All = false
 is_quit_heard Quit = true
+
+-- where fewer bytes than a full output were gathered, fewer are again, unless a `quit` was heard
+abbrev pub KeepsRoom : Serving → Heard → Serving → Type 0
+KeepsRoom old heard new = heard ≡ All → length old.out < FULL → length new.out < FULL
 
 -- what a session makes of what comes next of a stream
 abbrev pub AnswersNext : Serving → Next → Option (List ℕ) → Option (List ℕ) → Heard → Serving → Type 0

@@ -18,18 +18,14 @@ use Rattle.mc_top.specs.Input.{CameSoFar, CameWhole}
 abbrev pub AreLawful : List (String Global) → Type 0
 AreLawful words = map (λ w. string_bytes w) words ≡ codes "run" ∷ codes "--turns" ∷ []
 
--- the most bytes of an input that are answered
-abbrev pub most_input : ℕ
-most_input = 1099511627776
-
 -- what the devices of a run tell: the bytes still to come, the readings of the clock, and the bytes written
-pub record Told : Type 0 where
+pub record DeviceViews : Type 0 where
   pub input : Option (List ℕ)
   pub clock : Option (List ℕ)
   pub output : Option (List ℕ)
 
-abbrev pub told : Option (List ℕ) → Option (List ℕ) → Option (List ℕ) → Told
-told input clock output = record { input = input; clock = clock; output = output }
+abbrev pub views : Option (List ℕ) → Option (List ℕ) → Option (List ℕ) → DeviceViews
+views input clock output = record { input = input; clock = clock; output = output }
 
 -- ---- what is answered
 
@@ -41,7 +37,7 @@ pub record Outputs (messages : List Message) (readings : List ℕ) (output : Lis
   pub shows : output ≡ rendered (shown_of_all messages replies)
 
 -- The clock was read once for each command, and the output of all messages is written.
-pub record AreAnswered (messages : List Message) (before after : Told) : Type 0 where
+pub record AreAnswered (messages : List Message) (before after : DeviceViews) : Type 0 where
   pub readings : List ℕ
   pub output : List ℕ
   pub is_read : Grows before.clock after.clock readings
@@ -53,7 +49,7 @@ abbrev pub WritesFront : Option (List ℕ) → Option (List ℕ) → List ℕ �
 WritesFront old new output = (written : List ℕ) → old ≡ Some written → (count : ℕ) × (new ≡ Some (written ++ take count output))
 
 -- Of the output of some of the messages, from the first on, a front is written. The clock may have been read once more.
-pub record AreBegun (messages : List Message) (before after : Told) : Type 0 where
+pub record AreBegun (messages : List Message) (before after : DeviceViews) : Type 0 where
   pub seen : List Message
   pub unseen : List Message
   pub parts : messages ≡ seen ++ unseen
@@ -68,12 +64,12 @@ pub record AreBegun (messages : List Message) (before after : Told) : Type 0 whe
 -- ---- what was read
 
 -- This text came of the input so far, and its first `most` bytes read as these messages and a rest.
-pub record IsReadAs (most : ℕ) (before after : Told) (text : List ℕ) (messages : List Message) (rest : List ℕ) : Type 0 where
+pub record IsReadAs (most : ℕ) (before after : DeviceViews) (text : List ℕ) (messages : List Message) (rest : List ℕ) : Type 0 where
   pub came : CameSoFar before.input after.input text
   pub reads : Reads (take most text) messages rest
 
 -- The messages up to the first `quit` are answered, where text, messages and rest end so.
-pub record IsAnswered (most : ℕ) (before after : Told) (Ends : List ℕ → List Message → List ℕ → Type 0) : Type 0 where
+pub record IsAnswered (most : ℕ) (before after : DeviceViews) (Ends : List ℕ → List Message → List ℕ → Type 0) : Type 0 where
   pub text : List ℕ
   pub messages : List Message
   pub rest : List ℕ
@@ -82,7 +78,7 @@ pub record IsAnswered (most : ℕ) (before after : Told) (Ends : List ℕ → Li
   pub answered : AreAnswered (until_quit messages) before after
 
 -- The messages up to the first `quit` are answered as far as it came.
-pub record IsBegun (most : ℕ) (before after : Told) : Type 0 where
+pub record IsBegun (most : ℕ) (before after : DeviceViews) : Type 0 where
   pub text : List ℕ
   pub messages : List Message
   pub rest : List ℕ
@@ -92,17 +88,17 @@ pub record IsBegun (most : ℕ) (before after : Told) : Type 0 where
 -- ---- how it ends
 
 -- the input ended within `most` bytes, without a `quit`
-pub record IsOver (most : ℕ) (before after : Told) (text : List ℕ) (messages : List Message) : Type 0 where
+pub record IsOver (most : ℕ) (before after : DeviceViews) (text : List ℕ) (messages : List Message) : Type 0 where
   pub came : CameWhole before.input after.input text
   pub fits : length text ≤ most
   pub no_quit : has_quit messages ≡ false
 
 -- at a `quit`, or where the input ended between two messages
-abbrev pub EndsBetween : ℕ → Told → Told → List ℕ → List Message → List ℕ → Type 0
+abbrev pub EndsBetween : ℕ → DeviceViews → DeviceViews → List ℕ → List Message → List ℕ → Type 0
 EndsBetween most before after text messages rest = (has_quit messages ≡ true) ⊎ (IsOver most before after text messages × (rest ≡ []))
 
 -- where the input ended inside a message
-abbrev pub EndsInside : ℕ → Told → Told → List ℕ → List Message → List ℕ → Type 0
+abbrev pub EndsInside : ℕ → DeviceViews → DeviceViews → List ℕ → List Message → List ℕ → Type 0
 EndsInside most before after text messages rest = IsOver most before after text messages × (rest ≢ [])
 
 -- after `most` bytes without a `quit`, where there are more
@@ -114,7 +110,7 @@ abbrev pub EndsFailed : ℕ → List ℕ → List Message → List ℕ → Type 
 EndsFailed most text messages rest = (has_quit messages ≡ false) × (length text ≤ most)
 
 -- what a run has done that reads at most so many bytes and ends with a status
-abbrev pub Does : ℕ → Status → Told → Told → Type 0
+abbrev pub Does : ℕ → Status → DeviceViews → DeviceViews → Type 0
 Does most Ended before after = IsAnswered most before after (EndsBetween most before after)
 Does most EndedInside before after = IsAnswered most before after (EndsInside most before after)
 Does most TooMuch before after = IsAnswered most before after (EndsEarly most)

@@ -1,5 +1,6 @@
 //! One message is answered.
-ghost use Rattle.std.specs.Prelude.{◌≡◌, IfOk, OnOk, OnErr};
+ghost use Rattle.std.specs.Prelude.{◌≡◌, ◌<◌, length, IfOk, OnOk, OnErr};
+ghost use Rattle.mc_session.specs.declared.session.TheConstants.{FULL};
 ghost use Rattle.tm_base.specs.Causes.{HasCause};
 ghost use Rattle.tm_base.specs.Visible.{GrowsByFront};
 ghost use Rattle.mc_model.specs.Quits.{is_quit_command};
@@ -54,10 +55,11 @@ pub fn answer<W: Clock, G: Gate>(
     }
 }
 
-/// Writes the gathered bytes where they are many. An `Err` has written a front of them.
+/// Writes the gathered bytes where they are at least [`FULL`](mc_session::FULL). An `Err` has written a front of them.
 pub fn write_if_full<B: Sink>(session: &mut Session, output: &mut B) -> Result<(), Failed>
     ensures ok { OnOk result (IsFlushed session.old (B.written output.old) (B.written output.new) session.new) }
     ensures err { OnErr result (GrowsByFront (B.written output.old) (B.written output.new) session.old.out) }
+    ensures room { OnOk result (length session.new.out < FULL) }
     ensures cause { HasCause (B.faults output.old) (B.faults output.new) result }
     ensures no_fault { OnOk result (B.faults output.new ≡ B.faults output.old) }
 {

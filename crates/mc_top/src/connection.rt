@@ -3,7 +3,7 @@ ghost use Rattle.std.specs.Prelude.{◌≡◌, ◌≢◌, min, vec_len, IfOk};
 ghost use Rattle.tm_base.specs.Causes.{Rose};
 ghost use Rattle.mc_top.specs.declared.status.Status.TheVariants as status;
 ghost use Rattle.mc_top.specs.Ends.{status_of, IsEndAt};
-ghost use Rattle.mc_top.specs.Runs.{told, Does};
+ghost use Rattle.mc_top.specs.Runs.{views, Does};
 
 use crate::answering::Heard;
 use crate::piece::answer_piece;
@@ -14,7 +14,7 @@ use std::alloc::{AllocError, Global};
 use tm_base::{Clock, Gate, Sink, Source};
 
 /// How many bytes each read asks for.
-const BUFFER: usize = 65_536;
+pub(crate) const BUFFER: usize = 65_536;
 
 /// How an input ended.
 #[derive(Clone, Copy, Debug, PartialEq, Eq)]
@@ -29,7 +29,7 @@ pub enum End {
 
 // Room for one read.
 fn read_buffer(alloc: Global) -> Result<Vec<u8>, AllocError>
-    ensures { IfOk result (λ buffer. vec_len buffer ≡ 65536) }
+    ensures { IfOk result (λ buffer. vec_len buffer ≡ BUFFER) }
 {
     vec![in alloc; 0u8; BUFFER]
 }
@@ -68,8 +68,8 @@ pub fn answer_all<A: Source, B: Sink, W: Clock, G: Gate>(
     gate: &G,
 ) -> Result<End, Stop>
     ensures does { Does most (status_of result)
-        (told (A.left input.old) (W.readings clock.old) (B.written output.old))
-        (told (A.left input.new) (W.readings clock.new) (B.written output.new)) }
+        (views (A.left input.old) (W.readings clock.old) (B.written output.old))
+        (views (A.left input.new) (W.readings clock.new) (B.written output.new)) }
     ensures read_cause { status_of result ≡ status.ReadFault → Rose (A.faults input.old) (A.faults input.new) }
     ensures write_cause { status_of result ≡ status.WriteFault → Rose (B.faults output.old) (B.faults output.new) }
     ensures no_read_fault { status_of result ≢ status.ReadFault → A.faults input.new ≡ A.faults input.old }

@@ -2,7 +2,7 @@
 ghost use Rattle.std.specs.Prelude.{◌≡◌, ◌≢◌, [], Err, IfOk, OnOk, OnErr, IsErrOf};
 ghost use Rattle.tm_base.specs.Causes.{Rose};
 ghost use Rattle.mc_grammar.specs.Progress.{IsUnfinished};
-ghost use Rattle.mc_top.specs.Answering.{AnswersPiece, CutsOff};
+ghost use Rattle.mc_top.specs.Answering.{AnswersPiece, CutsOff, KeepsRoom};
 
 use crate::answering::{Heard, answer, write_if_full};
 use crate::stop::Stop;
@@ -11,7 +11,7 @@ use mc_session::Session;
 use tm_base::{Clock, Gate, Sink};
 
 // Answers the messages that a piece completes, up to a `quit`. What they show is gathered in the session, and written
-// each time that 65,536 bytes are.
+// each time that `FULL` bytes are: between two messages fewer stay gathered.
 fn answer_messages<B: Sink, W: Clock, G: Gate>(
     reader: &mut Reader,
     session: &mut Session,
@@ -23,6 +23,7 @@ fn answer_messages<B: Sink, W: Clock, G: Gate>(
     requires { IsUnfinished reader.old }
     ensures ok { IfOk result (λ heard. AnswersPiece reader.old session.old piece.now heard
         (W.readings clock.old) (W.readings clock.new) (B.written output.old) (B.written output.new) reader.new session.new) }
+    ensures room { IfOk result (λ heard. KeepsRoom session.old heard session.new) }
     ensures unfinished { OnOk result (IsUnfinished reader.new) }
     ensures err { OnErr result (CutsOff reader.old session.old piece.now
         (W.readings clock.old) (W.readings clock.new) (B.written output.old) (B.written output.new)) }

@@ -1,7 +1,7 @@
 //! The top call: all that the program does.
 ghost use Rattle.std.specs.Prelude.{◌≡◌, ◌≢◌};
 ghost use Rattle.tm_base.specs.Causes.{Rose};
-ghost use Rattle.mc_top.specs.Runs.{AreLawful, most_input, told, Does};
+ghost use Rattle.mc_top.specs.Runs.{AreLawful, views, Does};
 
 use crate::connection::{End, answer_all};
 use crate::status::Status;
@@ -31,9 +31,9 @@ pub fn top_in_turns<A: Source, B: Sink, W: Clock, G: Gate>(
     // The output is the plain store's for the messages of the input up to its first `quit`, at their moments: all of it
     // where the input ended, between two messages or inside one, had more than 2^40 bytes, or failed, for all that came
     // whole before; and a front of it where the output failed or memory was wanting.
-    ensures does { Does most_input result
-        (told (A.left input.old) (W.readings clock.old) (B.written output.old))
-        (told (A.left input.new) (W.readings clock.new) (B.written output.new)) }
+    ensures does { Does MOST_INPUT result
+        (views (A.left input.old) (W.readings clock.old) (B.written output.old))
+        (views (A.left input.new) (W.readings clock.new) (B.written output.new)) }
 
     // Nothing is touched for words that are not lawful, and only for those.
     ensures bad_words { result ≡ Status.BadWords → AreLawful words.now → ⊥ }

@@ -17,7 +17,7 @@ some g c =
     took (take (length piece - at) (drop at piece)) c.in-Ok.taken c.loop-at.reader (omega (arith, length-take (length piece - at) (drop at piece), length-drop at piece)) c.loop-at.invariant.unfinished c.in-Ok.ensures.takes
 
 pub loop-at-init : goal.loop-at-init
-loop-at-init g c = record { within = omega arith; unfinished = c.requires; serves = serves_none _ _ _ _; calm = refl }
+loop-at-init g c = record { within = omega arith; unfinished = c.requires; serves = serves_none _ _ _ _; room = λ few. few; calm = refl }
 
 pub returns-in_default-clause-err : goal.returns-in_default-clause-err
 returns-in_default-clause-err g c = cuts_here _ _ c.args.piece.now c.loop-at.at _ _ _ _ _ c.loop-at.reader c.loop-at.session c.loop-at.invariant.serves c.loop-at.invariant.unfinished
@@ -47,6 +47,7 @@ loop-at-preserved g c =
       serves = serves_flushed _ _ _ _ _ _ _ _ c.answer.new.session _ _ c.write_if_full.new.session
           (serves_at _ _ _ _ _ _ _ c.loop-at.reader c.loop-at.session c.args.piece.now c.loop-at.at c.in-Ok.taken c.feed.new.self _ c.next-next.result c.in-Ok-answer.heard All _ c.answer.new.session refl (all_heard _ c.in_default-heard.not-Quit) c.loop-at.invariant.serves c.in-Ok.ensures.reads c.next-next.ensures.comes c.next-next.ensures.reads c.in-Ok-answer.ensures.ok)
           c.in-Ok-write_if_full.ensures.ok;
+      room = λ few. c.in-Ok-write_if_full.ensures.room;
       calm = c.in-Ok-write_if_full.ensures.no_fault ∙ c.loop-at.invariant.calm;
     }
 
