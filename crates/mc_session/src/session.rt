@@ -86,7 +86,8 @@ impl Session {
     ///
     /// Each operation passes the gate as `at(1, n)`, where `n` of them were run before: one for each key, 64 for
     /// `flush_all` and for `stats` unless memory is wanting, and none for `version`, `verbosity` and `quit`. A value is
-    /// copied once, out of its item. An `Err`, for want of memory, leaves the bytes that are still to be written.
+    /// copied once, out of its item. An `Err`, for want of memory, leaves the bytes that are still to be written; the clock
+    /// is read, and the classes have replied to the command, or to a `get` of the first of its keys.
     pub fn answer<W: Clock, G: Gate>(
         &mut self,
         command: Command,
@@ -94,7 +95,7 @@ impl Session {
         gate: &G,
     ) -> Result<(), AllocError>
         ensures ok { OnOk result (Answered self.old command (W.readings clock.old) (W.readings clock.new) self.new) }
-        ensures err { OnErr result (GaveUp self.old (W.readings clock.old) (W.readings clock.new) self.new) }
+        ensures err { OnErr result (GaveUp self.old command (W.readings clock.old) (W.readings clock.new) self.new) }
     {
         let moment = self.tick(clock);
         let shown = self.asking.answer(self.alloc, command, moment, gate)?;
@@ -117,11 +118,13 @@ impl Session {
         self.out.len() >= FULL
     }
 
-    /// Writes the gathered bytes. An `Err` has written a front of them.
+    /// Writes the gathered bytes. An `Err` has written a front of them, and keeps them all: what is written then is not
+    /// to be written again.
     pub fn write_out<B: Sink>(&mut self, output: &mut B) -> Result<(), Failed>
         ensures ok { OnOk result (Grows (B.written output.old) (B.written output.new) self.old.out) }
         ensures err { OnErr result (GrowsByFront (B.written output.old) (B.written output.new) self.old.out) }
         ensures out { OnOk result (self.new.out ≡ []) }
+        ensures kept { OnErr result (self.new.out ≡ self.old.out) }
         ensures classes { self.new.classes ≡ self.old.classes }
         ensures moment { self.new.moment ≡ self.old.moment }
         ensures cause { HasCause (B.faults output.old) (B.faults output.new) result }

@@ -17,7 +17,7 @@ use Rattle.mc_grammar.specs.Reading.{IsRead}
 use Rattle.mc_laws.specs.Classes.{new_classes}
 use Rattle.mc_laws.specs.Replies.{ClassesRun}
 use Rattle.mc_session.specs.declared.session.TheConstants.{FULL}
-use Rattle.mc_session.specs.Session.{Serving, with_shown, Answered}
+use Rattle.mc_session.specs.Session.{Serving, with_shown, Answered, GaveUp}
 use Rattle.mc_top.specs.declared.answering.Heard.{Heard}
 use Rattle.mc_top.specs.declared.answering.Heard.TheVariants.{All, Quit}
 
@@ -35,6 +35,12 @@ abbrev pub AnswersNext : Serving → Next → Option (List ℕ) → Option (List
 AnswersNext old (next.Command c) clock clock_new heard new = Answered old c clock clock_new new × (is_quit_heard heard ≡ is_quit_command c)
 AnswersNext old (next.Fault fault) clock clock_new heard new = (new ≡ with_shown old (shown_of_fault fault)) × (clock_new ≡ clock) × (heard ≡ All)
 AnswersNext old next.More clock clock_new heard new = (new ≡ old) × (clock_new ≡ clock) × (heard ≡ All)
+
+-- what a session made of what came next of a stream where memory was wanting
+abbrev pub GivesUpOn : Serving → Next → Option (List ℕ) → Option (List ℕ) → Serving → Type 0
+GivesUpOn old (next.Command c) clock clock_new new = GaveUp old c clock clock_new new
+GivesUpOn old (next.Fault fault) clock clock_new new = (new ≡ old) × (clock_new ≡ clock)
+GivesUpOn old next.More clock clock_new new = ⊥
 
 -- some of the bytes that were still to be written are, from the first on
 pub record IsFlushed (old : Serving) (written written_new : Option (List ℕ)) (new : Serving) : Type 0 where

@@ -4,8 +4,7 @@ ghost use Rattle.mc_session.specs.declared.session.TheConstants.{FULL};
 ghost use Rattle.tm_base.specs.Causes.{HasCause};
 ghost use Rattle.tm_base.specs.Visible.{GrowsByFront};
 ghost use Rattle.mc_model.specs.Quits.{is_quit_command};
-ghost use Rattle.mc_session.specs.Session.{GaveUp};
-ghost use Rattle.mc_top.specs.Answering.{is_quit_heard, AnswersNext, IsFlushed};
+ghost use Rattle.mc_top.specs.Answering.{is_quit_heard, AnswersNext, GivesUpOn, IsFlushed};
 
 use mc_grammar::Next;
 use mc_model::Command;
@@ -39,7 +38,7 @@ pub fn answer<W: Clock, G: Gate>(
     gate: &G,
 ) -> Result<Heard, AllocError>
     ensures ok { IfOk result (λ heard. AnswersNext session.old next (W.readings clock.old) (W.readings clock.new) heard session.new) }
-    ensures err { OnErr result (GaveUp session.old (W.readings clock.old) (W.readings clock.new) session.new) }
+    ensures err { OnErr result (GivesUpOn session.old next (W.readings clock.old) (W.readings clock.new) session.new) }
 {
     match next {
         Next::Command(command) => {

@@ -23,7 +23,7 @@ pub returns-in_default-clause-err : goal.returns-in_default-clause-err
 returns-in_default-clause-err g c = cuts_here _ _ c.args.piece.now c.loop-at.at _ _ _ _ _ c.loop-at.reader c.loop-at.session c.loop-at.invariant.serves c.loop-at.invariant.unfinished
 
 pub returns-in_default-answer-clause-err : goal.returns-in_default-answer-clause-err
-returns-in_default-answer-clause-err g c = cuts_gave_up _ _ c.args.piece.now c.loop-at.at _ _ _ _ _ c.loop-at.reader c.loop-at.session c.loop-at.invariant.serves c.loop-at.invariant.unfinished _ c.answer.new.session c.in_default-answer.ensures.err
+returns-in_default-answer-clause-err g c = cuts_gave_up _ _ c.args.piece.now c.loop-at.at _ _ _ _ _ c.loop-at.reader c.loop-at.session c.loop-at.invariant.serves c.loop-at.invariant.unfinished _ c.next-next.result c.answer.new.session c.in_default-answer.ensures.err
 
 pub returns-in-Quit-clause-ok : goal.returns-in-Quit-clause-ok
 returns-in-Quit-clause-ok g c = record {
