@@ -1,5 +1,5 @@
 -- One read of a connection, and what it brought.
-use Rattle.std.proofs.Common.{◌≡◌, ◌≢◌, ℕ, ◌-◌, ◌<◌, ◌≤◌, min, false, List, [], ◌++◌, length, take, drop, Option, Result, Ok, Err, refl, sym, ap, subst, ◌∙◌, arith, append_assoc, length-append}
+use Rattle.std.proofs.Common.{◌≡◌, ◌≢◌, ◌⊎◌, inl, inr, ℕ, ◌-◌, ◌<◌, ◌≤◌, min, false, List, [], ◌++◌, length, take, drop, Option, Result, Ok, Err, refl, sym, ap, subst, ◌∙◌, arith, append_assoc, length-append}
 use Rattle.std.proofs.lemmas.List.{take_all, take-append-drop, length-take-le}
 use Rattle.tm_base.specs.Visible.{Stays, Gives, IsEmptyWhereTold}
 use Rattle.mc_grammar.specs.declared.progress.Progress.{Progress}
@@ -11,6 +11,8 @@ use Rattle.mc_top.specs.declared.answering.Heard.TheVariants.{All, Quit}
 use Rattle.mc_top.specs.declared.connection.End.{End}
 use Rattle.mc_top.specs.declared.connection.End.TheVariants.{Between, TooMuch}
 use Rattle.mc_top.specs.declared.stop.Stop.{Stop}
+use Rattle.mc_top.specs.declared.status.Status.{Status}
+use Rattle.mc_top.specs.declared.status.Status.TheVariants as status
 use Rattle.mc_top.specs.declared.stop.Stop.TheVariants as stop
 use Rattle.mc_top.specs.Input.{CameSoFar}
 use Rattle.mc_top.specs.Answering.{is_quit_heard, IsServed, ServesOn, AnswersPiece, CutsOff}
@@ -41,6 +43,11 @@ pub ends_unbegun : (most : ℕ) (input clock written : Option (List ℕ)) → Do
 ends_unbegun most input clock written =
     ends_cut most input input clock clock written written [] [] (take most []) refl (none_came input) stop.NoMemory (λ e. absurd (cc))
     (cut_here [] false clock clock written written Start first_serving (none_served clock written) start_unfinished)
+
+-- the words could not be had, or are none
+pub ends_unrun : (most : ℕ) (input clock written : Option (List ℕ)) (why : Status) → (why ≡ status.BadWords) ⊎ (why ≡ status.NoMemory) → Does most why (views input clock written) (views input clock written)
+ends_unrun most input clock written why (inl bad) = rw bad refl
+ends_unrun most input clock written why (inr none) = rw none (ends_unbegun most input clock written)
 
 module _ (most left : ℕ) (input input_now input_new clock clock_now written written_now : Option (List ℕ)) (reader : Progress) (session : Serving) (g : IsGoing most left input input_now clock clock_now written written_now reader session) where
   fits : length g.text ≤ most

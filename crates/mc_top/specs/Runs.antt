@@ -11,6 +11,8 @@ use Rattle.mc_model.specs.Showing.{commands_of, shown_of_all}
 use Rattle.mc_model.specs.Rendering.{rendered}
 use Rattle.mc_model.specs.Plain.{Plain, new_store, Runs}
 use Rattle.mc_top.specs.declared.status.Status.{Status}
+use Rattle.mc_top.specs.declared.top.TheConstants.{MOST_INPUT}
+use Rattle.mc_top.specs.Statuses.{number_of}
 use Rattle.mc_top.specs.declared.status.Status.TheVariants.{Ended, BadWords, NoMemory, ReadFault, WriteFault, TooMuch, EndedInside}
 use Rattle.mc_top.specs.Input.{CameSoFar, CameWhole}
 
@@ -118,3 +120,7 @@ Does most ReadFault before after = IsAnswered most before after (EndsFailed most
 Does most WriteFault before after = IsBegun most before after
 Does most NoMemory before after = IsBegun most before after
 Does most BadWords before after = after ≡ before
+
+-- what a run of the whole program has done that ends the process with this exit status
+abbrev pub Exits : ℕ → DeviceViews → DeviceViews → Type 0
+Exits number before after = (status : Status) × (number ≡ number_of status) × Does MOST_INPUT status before after

@@ -1,5 +1,5 @@
 -- The statuses of the program.
-use Rattle.std.specs.Prelude.{◌≡◌, ℕ, List, Option, Some, None, codes}
+use Rattle.std.specs.Prelude.{ℕ, List, Option, Some, None, codes}
 use Rattle.mc_top.specs.declared.status.Status.{Status}
 use Rattle.mc_top.specs.declared.status.Status.TheVariants.{Ended, BadWords, NoMemory, ReadFault, WriteFault, TooMuch, EndedInside}
 
@@ -22,7 +22,3 @@ number_of ReadFault = 3
 number_of WriteFault = 4
 number_of TooMuch = 7
 number_of EndedInside = 8
-
--- the exit status of some end of the program
-abbrev pub IsExit : ℕ → Type 0
-IsExit number = (status : Status) × (number ≡ number_of status)

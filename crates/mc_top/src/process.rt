@@ -1,44 +1,42 @@
-//! The program as a process: its words, its streams, and how it ends.
-ghost use Rattle.std.specs.Prelude.{◌≡◌};
+//! The program as a process: its words, its clock, and how it ends.
+ghost use Rattle.std.specs.Prelude.{◌≡◌, ◌⊎◌, None, IfErr};
 ghost use Rattle.std.specs.Process.{exit_status};
-ghost use Rattle.mc_top.specs.Statuses.{number_of, IsExit};
+ghost use Rattle.mc_top.specs.Statuses.{number_of};
+ghost use Rattle.mc_top.specs.Runs.{views, Does, Exits};
 
 use crate::status::Status;
-use crate::top::top_in_turns;
-use std::io::{Read, Write};
-use std::process::ExitCode;
-use std::rt::{self, Env};
+use crate::top::{MOST_INPUT, top_in_turns};
 use std::env;
-use tm_base::{FreeGate, StdSink, StdSource, SystemClock};
+use std::process::ExitCode;
+use std::rt::{Clock, Env};
+use tm_base::{FreeGate, Sink, Source, SystemClock};
 
 // The words behind the program's name. Arguments that are no text are no lawful words.
-fn words_of<R: Env + AllocGlobal>(rt: &R) -> Result<Vec<String>, Status> {
+fn words_of<R: Env + AllocGlobal>(rt: &R) -> Result<Vec<String>, Status>
+    ensures { IfErr result (λ why. (why ≡ Status.BadWords) ⊎ (why ≡ Status.NoMemory)) }
+{
     let args = env::args(rt).map_err(|_| Status::BadWords)?;
     args.skip(1)
         .collect(rt.alloc())
         .map_err(|_| Status::NoMemory)
 }
 
-fn run<R: Env + AllocGlobal + rt::Clock, I: Read + Drop, O: Write + Drop>(
+// A run on the words of the process and the system's clock.
+fn run<R: Env + AllocGlobal + Clock, A: Source, B: Sink>(
     rt: &R,
-    input: I,
-    output: O,
-) -> Status {
+    input: &mut A,
+    output: &mut B,
+) -> Status
+    ensures { Does MOST_INPUT result
+        (views (A.left input.old) None (B.written output.old))
+        (views (A.left input.new) None (B.written output.new)) }
+{
     let words = match words_of(rt) {
         Ok(words) => words,
         Err(status) => return status,
     };
-    let mut input = StdSource::new(input);
-    let mut output = StdSink::new(output);
     let mut clock = SystemClock::new(rt);
-    top_in_turns(
-        rt.alloc(),
-        &words,
-        &mut input,
-        &mut output,
-        &mut clock,
-        &FreeGate,
-    )
+    top_in_turns(rt.alloc(), &words, input, output, &mut clock, &FreeGate)
 }
 
 /// Says on standard error how a run of the program ended, unless it is [`Status::Ended`], and gives the exit status of
@@ -52,14 +50,17 @@ pub fn conclude<R: Eprint>(rt: &R, status: Status) -> ExitCode
     ExitCode::from(status.number())
 }
 
-/// The whole program, on the words of the process, the system's clock, and these streams, which are standard input and
-/// standard output in `main`. The exit status is that of a [`Status`].
-pub fn run_on_std<R: Env + AllocGlobal + Eprint + rt::Clock, I: Read + Drop, O: Write + Drop>(
+/// The whole program: [`top_in_turns`] on the words of the process, the system's clock and these two devices, which in
+/// `main` are standard input and output, and then [`conclude`].
+pub fn run_process<R: Env + AllocGlobal + Eprint + Clock, A: Source, B: Sink>(
     rt: &R,
-    input: I,
-    output: O,
+    input: &mut A,
+    output: &mut B,
 ) -> ExitCode
-    ensures { IsExit (exit_status result) }
+    // The exit status is that of a run that read and wrote so. What is said on standard error is no part of the output.
+    ensures { Exits (exit_status result)
+        (views (A.left input.old) None (B.written output.old))
+        (views (A.left input.new) None (B.written output.new)) }
 {
     let status = run(rt, input, output);
     conclude(rt, status)
