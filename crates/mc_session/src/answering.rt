@@ -13,7 +13,7 @@ use tm_base::Gate;
 impl Asking {
     /// Asks the classes what a command asks for, and says what it shows. An `Err`, for want of memory, has asked for all,
     /// or of a `get` for the first of its keys.
-    pub fn answer<G: Gate>(
+    pub(crate) fn answer<G: Gate>(
         &mut self,
         alloc: Global,
         command: Command,

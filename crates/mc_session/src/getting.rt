@@ -45,7 +45,7 @@ impl Found {
 impl Asking {
     /// Asks for the items of the keys, one after another. A key without an item is not shown. Where memory was wanting
     /// for one of them, that alone is shown. An `Err`, for want of memory, has asked for the first of the keys.
-    pub fn get_all<G: Gate>(
+    pub(crate) fn get_all<G: Gate>(
         &mut self,
         alloc: Global,
         keys: Keys,

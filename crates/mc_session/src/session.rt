@@ -8,15 +8,12 @@ ghost use Rattle.mc_session.specs.Session.{first_serving, with_shown, Answered, 
 
 use crate::asking::Asking;
 use crate::showing::fault_shown;
-use mc_item::Bytes;
+use mc_item::{Bytes, LATEST_TIME};
 use mc_model::{Command, Fault};
 use mc_reply::render;
 use std::alloc::{AllocError, Global};
 use std::marker::Model;
 use tm_base::{Clock, Failed, Gate, Sink, write_all};
-
-/// A reading of the clock above this counts as this.
-const LATEST: u64 = 1 << 62;
 
 /// Where at least so many bytes are gathered, they are to be written: an output is full then.
 pub const FULL: usize = 65_536;
@@ -77,7 +74,7 @@ impl Session {
             × (result ≡ latest self.old.moment reading) }
     {
         let reading = clock.now();
-        self.moment = self.moment.max(reading.min(LATEST));
+        self.moment = self.moment.max(reading.min(LATEST_TIME));
         self.moment
     }
 

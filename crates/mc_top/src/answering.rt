@@ -14,7 +14,7 @@ use tm_base::{Clock, Failed, Gate, Sink};
 
 /// What was heard of a stream.
 #[derive(Clone, Copy, Debug, PartialEq, Eq)]
-pub enum Heard {
+pub(crate) enum Heard {
     /// All that there was, without a `quit`.
     All,
     /// A `quit`. What stands behind it is not looked at.
@@ -31,7 +31,7 @@ fn heard_in(command: &Command) -> Heard
 }
 
 /// Answers what comes next. A command reads the clock once, a fault does not, and `More` is nothing.
-pub fn answer<W: Clock, G: Gate>(
+pub(crate) fn answer<W: Clock, G: Gate>(
     session: &mut Session,
     next: Next,
     clock: &mut W,
@@ -55,7 +55,7 @@ pub fn answer<W: Clock, G: Gate>(
 }
 
 /// Writes the gathered bytes where they are at least [`FULL`](mc_session::FULL). An `Err` has written a front of them.
-pub fn write_if_full<B: Sink>(session: &mut Session, output: &mut B) -> Result<(), Failed>
+pub(crate) fn write_if_full<B: Sink>(session: &mut Session, output: &mut B) -> Result<(), Failed>
     ensures ok { OnOk result (IsFlushed session.old (B.written output.old) (B.written output.new) session.new) }
     ensures err { OnErr result (GrowsByFront (B.written output.old) (B.written output.new) session.old.out) }
     ensures room { OnOk result (length session.new.out < FULL) }

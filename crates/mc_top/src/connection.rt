@@ -18,7 +18,7 @@ pub(crate) const BUFFER: usize = 65_536;
 
 /// How an input ended.
 #[derive(Clone, Copy, Debug, PartialEq, Eq)]
-pub enum End {
+pub(crate) enum End {
     /// Between two messages, or at a `quit`.
     Between,
     /// Inside a message.
@@ -59,7 +59,7 @@ fn end_of(reader: &Reader) -> End
 /// Answers an input, at most its first `most` bytes, to its end or to a `quit`.
 ///
 /// Before each read all that came whole is answered and written. An `Err` leaves a front of the output written.
-pub fn answer_all<A: Source, B: Sink, W: Clock, G: Gate>(
+pub(crate) fn answer_all<A: Source, B: Sink, W: Clock, G: Gate>(
     alloc: Global,
     most: u64,
     input: &mut A,

@@ -52,7 +52,7 @@ fn answer_messages<B: Sink, W: Clock, G: Gate>(
 }
 
 /// Answers the messages that a piece completes, up to a `quit`, and writes all that they show.
-pub fn answer_piece<B: Sink, W: Clock, G: Gate>(
+pub(crate) fn answer_piece<B: Sink, W: Clock, G: Gate>(
     reader: &mut Reader,
     session: &mut Session,
     piece: &[u8],

@@ -9,7 +9,7 @@ fn is_word(word: &String, text: &str) -> bool
 }
 
 /// Whether the words behind the program's name are `run --turns`, the only command as yet.
-pub fn are_lawful(words: &[String]) -> bool
+pub(crate) fn are_lawful(words: &[String]) -> bool
     ensures { IsTrue result ↔ AreLawful words.now }
 {
     match words {
