@@ -1,3 +1,4 @@
+mod Cases
 pub mod ClassFacts
 pub mod ExpiryFacts
 pub mod KeyFacts

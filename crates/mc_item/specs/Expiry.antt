@@ -1,5 +1,6 @@
 -- When an item expires.
 use Rattle.std.specs.Prelude.{ℕ, ◌+◌, ◌<◌, ℤ, pos, negsuc, Bool, false, nat_le, ◌==◌, if◌then◌else◌}
+use Rattle.mc_item.specs.declared.limits.TheConstants.{LONGEST_RELATIVE}
 use Rattle.mc_item.specs.declared.expiry.Expiry.{Expiry}
 use Rattle.mc_item.specs.declared.expiry.Expiry.TheVariants.{Never, At}
 
@@ -7,7 +8,7 @@ use Rattle.mc_item.specs.declared.expiry.Expiry.TheVariants.{Never, At}
 -- after so many seconds up to 30 days, and else at the moment that the exptime is
 unfoldable pub due_at : ℤ → ℕ → Expiry
 due_at (pos seconds) now =
-    if seconds == 0 then Never else (if nat_le seconds 2592000 then At (now + seconds) else At seconds)
+    if seconds == 0 then Never else (if nat_le seconds LONGEST_RELATIVE then At (now + seconds) else At seconds)
 due_at (negsuc _) now = At 0
 
 -- the moment has come

@@ -3,9 +3,7 @@ ghost use Rattle.std.specs.Prelude.{◌≡◌, ◌<◌};
 ghost use Rattle.mc_item.specs.Classes.{hash_of, class_of};
 
 use crate::key::Key;
-
-/// How many classes share the keys out.
-pub const CLASSES: u32 = 64;
+use crate::limits::CLASSES;
 
 const HASHES: u64 = 1 << 32;
 

@@ -2,9 +2,7 @@
 ghost use Rattle.std.specs.Prelude.{◌≡◌, ◌≤◌, ◌^◌};
 ghost use Rattle.mc_item.specs.Expiry.{due_at, is_expired, IsDueBelow};
 
-/// The greatest exptime, in seconds, that counts from the present moment: 30 days. A greater one
-/// is a moment itself, as in memcached's protocol.txt.
-pub const LONGEST_RELATIVE: u64 = 2_592_000;
+use crate::limits::{LATEST_TIME, LONGEST_RELATIVE};
 
 /// When an item expires.
 #[derive(Clone, Copy, Debug, PartialEq, Eq)]
@@ -19,7 +17,7 @@ pub enum Expiry {
 /// never, and a negative one at once.
 #[tactic(auto, unfolding(crate::specs::Expiry::due_at))]
 pub fn due(exptime: i64, now: u64) -> Expiry
-    requires { now ≤ 2 ^ 62 }
+    requires { now ≤ LATEST_TIME }
     ensures due { result ≡ due_at exptime now }
     ensures below { IsDueBelow (2 ^ 63) result }
 {

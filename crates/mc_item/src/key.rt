@@ -9,15 +9,13 @@ ghost use Rattle.std.proofs.Common.{rules};
 ghost use Rattle.mc_item.specs.Keys.{is_key_byte, is_key};
 
 use crate::bytes::Bytes;
+use crate::limits::LONGEST_KEY;
 use std::alloc::{AllocError, Global};
 use std::cmp::Ordering;
 use std::fmt;
 use std::hash::{Hash, Hasher};
 use std::marker::Model;
 use thiserror::Error;
-
-/// The most bytes that a key has.
-pub const LONGEST_KEY: usize = 250;
 
 /// A key: 1 to 250 bytes, none of them 0 to 32 or 127, as memcached's protocol.txt asks. A
 /// contract sees the list of the bytes. Keys are ordered as their bytes are, the first byte first.

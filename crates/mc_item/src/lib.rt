@@ -6,12 +6,17 @@ mod bytes;
 mod class;
 mod expiry;
 mod key;
+mod limits;
 pub mod number;
 
 pub use bytes::Bytes;
-pub use class::{CLASSES, class_of};
-pub use expiry::{Expiry, LONGEST_RELATIVE, due, expired};
-pub use key::{Key, KeyRefused, LONGEST_KEY, is_key};
+pub use class::class_of;
+pub use expiry::{Expiry, due, expired};
+pub use key::{Key, KeyRefused, is_key};
+pub use limits::{
+    CLASSES, LARGEST_VALUE, LATEST_TIME, LONGEST_EXPTIME, LONGEST_KEY, LONGEST_LINE,
+    LONGEST_NUMBER, LONGEST_RELATIVE, MOST_CHANGES, MOST_ITEMS, MOST_KEYS, USUAL_ITEMS,
+};
 
 #[cfg(test)]
 mod tests;

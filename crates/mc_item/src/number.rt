@@ -2,11 +2,7 @@
 ghost use Rattle.std.specs.Prelude.{◌≡◌, ◌+◌, ◌≤◌, pos, option_map, IfSome};
 ghost use Rattle.mc_item.specs.Numbers.{digits_below, number_below, magnitude, exptime_of};
 
-/// The most digits of an unsigned number.
-pub const LONGEST_NUMBER: usize = 20;
-
-/// The most digits of an exptime.
-pub const LONGEST_EXPTIME: usize = 19;
+use crate::limits::{LONGEST_EXPTIME, LONGEST_NUMBER};
 
 #[tactic(auto, unfolding(crate::specs::Numbers::digits_below))]
 fn digits(text: &[u8], longest: usize, most: u64) -> Option<u64>

@@ -5,6 +5,7 @@ use Rattle.std.specs.FinMap as map
 use Rattle.mc_model.specs.declared.reply.ShardReply.{ShardReply}
 use Rattle.mc_model.specs.declared.reply.ShardReply.TheVariants as reply
 use Rattle.mc_model.specs.contracts.item.Item as item
+use Rattle.mc_item.specs.declared.limits.TheConstants.{LATEST_TIME}
 use Rattle.mc_model.specs.Moments.{latest}
 use Rattle.mc_model.specs.Items.{Items, no_items, item_at, count_of, live, with_key}
 use Rattle.mc_model.specs.Rows.{KeyOp, Outcome, outcome_of}
@@ -78,7 +79,7 @@ key_step s key op moment =
 
 -- the moment at which a flush is done: the operation's own, cut to 2 ^ 62, and the delay
 abbrev pub flush_moment : ℕ → ℕ → ℕ
-flush_moment moment delay = min moment (2 ^ 62) + delay
+flush_moment moment delay = min moment LATEST_TIME + delay
 
 -- a flush: it waits for its moment in the place of one that waits already, or is done at once
 abbrev pub flush_step : Class → ℕ → ℕ → Class × ShardReply

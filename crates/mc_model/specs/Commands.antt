@@ -2,6 +2,7 @@
 use Rattle.std.specs.Prelude.{ℕ, ◌^◌, ℤ, Bool, true, false, ◌&&◌, nat_le, if◌then◌else◌, List, [], ◌∷◌, length, Option, Some, None, codes}
 use Rattle.std.specs.List.{list_all}
 use Rattle.std.specs.Str.{bytes_eq}
+use Rattle.mc_item.specs.declared.limits.TheConstants.{MOST_KEYS}
 use Rattle.mc_item.specs.Keys.{is_key}
 use Rattle.mc_item.specs.Numbers.{number_below, exptime_of}
 use Rattle.mc_model.specs.declared.line.Saying.{Saying}
@@ -70,7 +71,7 @@ cas_row _ = bad
 -- ---- `get` `gets`: 1 to 1,024 keys
 
 abbrev pub are_keys : List (List ℕ) → Bool
-are_keys keys = nat_le 1 (length keys) && nat_le (length keys) 1024 && list_all is_key keys
+are_keys keys = nat_le 1 (length keys) && nat_le (length keys) MOST_KEYS && list_all is_key keys
 
 abbrev pub get_row : Bool → List (List ℕ) → Saying
 get_row with_cas keys = if are_keys keys then asks (command.Get keys with_cas) else bad

@@ -2,6 +2,7 @@
 use Rattle.std.specs.Prelude.{◌≡◌, ◌≢◌, ℕ, ◌-◌, ◌⊎◌, not, List, [], ◌∷◌, length, take, nat_lt, ◌==◌, if◌then◌else◌}
 use Rattle.std.specs.List.{filter, slice_split}
 use Rattle.std.specs.Str.Lines.{strip_carriage_return}
+use Rattle.mc_item.specs.declared.limits.TheConstants.{LONGEST_LINE}
 use Rattle.mc_model.specs.declared.line.Saying.{Saying}
 use Rattle.mc_model.specs.declared.message.Fault.TheVariants.{LineTooLong}
 use Rattle.mc_model.specs.Commands.{fails, tokens_say}
@@ -18,7 +19,7 @@ HasNoEnd (b ∷ bytes) = (b ≢ 10) × HasNoEnd bytes
 
 -- the most bytes of a line, with its line feed
 abbrev pub longest_line : ℕ
-longest_line = 65536
+longest_line = LONGEST_LINE
 
 -- the bytes before the line feed, without one carriage return directly before it
 abbrev pub body : List ℕ → List ℕ

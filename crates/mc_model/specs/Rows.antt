@@ -1,6 +1,7 @@
 -- What an operation on one key does: for each operation its rows, of which the first that applies holds.
 use Rattle.std.specs.Prelude.{ℕ, ◌+◌, ◌-◌, ◌*◌, ◌%◌, ◌^◌, ℤ, Bool, true, false, nat_lt, ◌==◌, if◌then◌else◌, List, ◌++◌, length, Option, Some, None}
 use Rattle.std.specs.Fmt.{decimal}
+use Rattle.mc_item.specs.declared.limits.TheConstants.{CLASSES, LARGEST_VALUE, MOST_CHANGES}
 use Rattle.mc_item.specs.Expiry.{due_at}
 use Rattle.mc_item.specs.Numbers.{number_below}
 use Rattle.mc_item.specs.declared.expiry.Expiry.{Expiry}
@@ -29,15 +30,15 @@ pub record Outcome : Type 0 where
 
 -- the most bytes of a value
 abbrev pub most_length : ℕ
-most_length = 1048576
+most_length = LARGEST_VALUE
 
 -- the most changes of a class
 abbrev pub most_changes : ℕ
-most_changes = 2 ^ 58 - 1
+most_changes = MOST_CHANGES
 
 -- the cas number of a class's change of this number
 abbrev pub cas_of : ℕ → ℕ → ℕ
-cas_of class change = 64 * change + class
+cas_of class change = CLASSES * change + class
 
 -- a reply with no change counted, where the key has this item then
 abbrev pub leaving : ShardReply → ℕ → Option Item → Outcome
