@@ -59,13 +59,17 @@ while kill -0 "$gate" 2> /dev/null; do
         pids=
         { read -r pids < "$list"; } 2> /dev/null
         for pid in $pids; do
-            if [ -z "${part[$pid]:-}" ]; then
+            { read -r stat < "/proc/$pid/stat"; } 2> /dev/null || continue
+            read -r -a stat <<< "${stat##*) }"
+            # (a number comes again: with the moment of its start it does not)
+            process=$pid.${stat[19]}
+            if [ -z "${part[$process]:-}" ]; then
                 part_of "$pid"
                 [ -n "$of" ] || continue
-                part[$pid]=$of
+                part[$process]=$of
             fi
             # (the greatest, since a process that is ending may show less)
-            ticks_of "$pid" && [ "$ticks" -gt "${spent[$pid]:-0}" ] && spent[$pid]=$ticks
+            ticks_of "$pid" && [ "$ticks" -gt "${spent[$process]:-0}" ] && spent[$process]=$ticks
         done
     done
     sleep 0.2
@@ -75,8 +79,8 @@ status=$?
 took=$((SECONDS - began))
 sleep 0.5 # (the rest of the log)
 
-for pid in "${!spent[@]}"; do
-    echo "${part[$pid]} ${spent[$pid]}"
+for process in "${!spent[@]}"; do
+    echo "${part[$process]} ${spent[$process]}"
 done > "$room/spent"
 grep -E '^([a-z0-9_]+):' crates.txt | cut -d: -f1 | while read -r crate; do
     lines=$(git ls-files "crates/$crate/src" "crates/$crate/specs" "crates/$crate/proofs" | tr '\n' '\0' | xargs -0 -r cat | wc -l)
@@ -87,12 +91,12 @@ done > "$room/crates"
 [ -f "$table" ] || : > "$table"
 
 awk -v commit="$commit" -v hertz="$hertz" -v most="$most" -v took="$took" '
-    function minutes(it) { return it == "" ? "?" : sprintf("%.1f", it) }
     FILENAME ~ /spent$/ { spent[$1, $2] += $3 / hertz / 60; next }
     FILENAME ~ /log$/ {
-        if ($1 == "==" && NF == 2) done[$2, "proof"] = 1
-        if ($1 == "==" && / its tests$/) { sub(/:$/, "", $2); done[$2, "tests"] = 1 }
-        if (/: trying its must-fail edits \([0-9]+\)$/) { sub(/:$/, "", $2); tried[$2] = substr($NF, 2) + 0 }
+        name = $2; sub(/:$/, "", name)
+        if (/^rt: [a-z0-9_]+ proved$/) done[name, "proof"] = 1
+        if (/^rt: [a-z0-9_]+: its tests are proved$/) done[name, "tests"] = 1
+        if (/^rt: [a-z0-9_]+: trying its must-fail edits \([0-9]+\)$/) tried[name] = substr($NF, 2) + 0
         next
     }
     FILENAME ~ /GATE.md$/ {
@@ -106,7 +110,7 @@ awk -v commit="$commit" -v hertz="$hertz" -v most="$most" -v took="$took" '
     }
     function number(name, part, is_there, is_done,    was) {
         if (!is_there) return "-"
-        if (is_done) { fresh = 1; return minutes(spent[name, part]) }
+        if (is_done) { fresh = 1; return sprintf("%.1f", spent[name, part]) }
         was = old[name, part]
         return was == "" || was == "-" ? "?" : was
     }
@@ -115,10 +119,12 @@ awk -v commit="$commit" -v hertz="$hertz" -v most="$most" -v took="$took" '
         proof = number(name, "proof", 1, done[name, "proof"])
         tests = number(name, "tests", $4 > 0, done[name, "tests"])
         edits = number(name, "edits", $3 > 0, tried[name] == $3)
-        all = proof + tests + edits
+        all = sprintf("%.1f", proof + tests + edits)
+        if (all + 0 > most + 0) all = all " !"
+        if (proof == "?" || tests == "?" || edits == "?") { all = "?"; lacks = " of what was measured" }
         sums["proof"] += proof; sums["tests"] += tests; sums["edits"] += edits; lines += $2; many += $3
         if (fresh) at[name] = commit
-        row[++rows] = sprintf("| `%s` | %d | %s | %s | %s%s | %.1f%s | %s |", name, $2, proof, tests, edits, $3 ? " (" $3 ")" : "", all, all > most ? " !" : "", at[name] == "" ? "-" : at[name])
+        row[++rows] = sprintf("| `%s` | %d | %s | %s | %s%s | %s | %s |", name, $2, proof, tests, edits, $3 ? " (" $3 ")" : "", all, at[name] == "" ? "-" : at[name])
     }
     END {
         print "# What the gate costs"
@@ -128,9 +134,10 @@ awk -v commit="$commit" -v hertz="$hertz" -v most="$most" -v took="$took" '
         print "| crate | lines | proof | tests | edits | all | measured at |"
         print "|---|---|---|---|---|---|---|"
         for (i = 1; i <= rows; i++) print row[i]
-        printf "| all | %d | %.1f | %.1f | %.1f (%d) | %.1f | |\n", lines, sums["proof"], sums["tests"], sums["edits"], many, sums["proof"] + sums["tests"] + sums["edits"]
+        printf "| all%s | %d | %.1f | %.1f | %.1f (%d) | %.1f | |\n", lacks, lines, sums["proof"], sums["tests"], sums["edits"], many, sums["proof"] + sums["tests"] + sums["edits"]
     }
 ' "$room/spent" "$room/log" "$table" "$room/crates" > "$room/table"
 cp "$room/table" "$table"
-echo "bench/gate.sh: $took seconds by the clock; $table is written"
+charged=$(awk -v hertz="$hertz" '{ n += $3 } END { printf "%d", n / hertz }' "$room/spent")
+echo "bench/gate.sh: $took seconds by the clock, $charged processor seconds of the prover; $table is written"
 exit "$status"
