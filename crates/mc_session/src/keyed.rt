@@ -64,7 +64,13 @@ impl Asking {
     }
 
     /// Asks that an item goes at another moment.
-    pub(crate) fn touch<G: Gate>(&mut self, key: Key, exptime: i64, moment: u64, gate: &G) -> ShardReply
+    pub(crate) fn touch<G: Gate>(
+        &mut self,
+        key: Key,
+        exptime: i64,
+        moment: u64,
+        gate: &G,
+    ) -> ShardReply
         ensures { IsClassPart self.old (key, Touch exptime) moment self.new result }
     {
         let class = class_of(&key);

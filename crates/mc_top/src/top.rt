@@ -19,7 +19,8 @@ pub const MOST_INPUT: u64 = 1 << 40;
 /// trustee in turn, which owns the 64 classes, and what it shows is written in memcached's words. Before each read all
 /// that came whole is answered and written. The clock is read once for each command, and the gate is passed before
 /// each operation of a class. The call always returns. What it keeps in memory is the items, one line or value of the
-/// input, a read's buffer of 65,536 bytes, and at most one reply more than 65,536 bytes of output.
+/// input, a read's buffer of 65,536 bytes, fewer than 65,536 bytes of output, and the reply to one command, which is held
+/// whole, and twice: as its values, and as its bytes.
 pub fn top_in_turns<A: Source, B: Sink, W: Clock, G: Gate>(
     alloc: Global,
     words: &[String],

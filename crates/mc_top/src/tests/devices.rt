@@ -1,14 +1,15 @@
 //! Runs over devices that fail, and limits of an input.
+ghost use Rattle.std.specs.Prelude.{None};
+
 use super::{NOW, text, words};
 use crate::connection::{End, answer_all};
 use crate::status::Status;
 use crate::stop::Stop;
 use crate::top::top_in_turns;
 use std::alloc::{AllocError, Global};
-use std::cell::Cell;
 use std::process::Abort;
 use std::test::Fail;
-use tm_base::{Clock, FreeGate, Gate, MemClock, MemSink, MemSource};
+use tm_base::{Clock, CountingGate, Failed, FreeGate, MemClock, MemSink, MemSource, Source};
 
 const SAMPLE: &[u8] = b"set a 5 0 3\r\nabc\r\nget a\r\n";
 
@@ -43,6 +44,61 @@ fn what_came_before_a_failed_read_is_answered(rt: HostRuntime) -> Result<(), Fai
         assert!(rt; written.as_slice() == output, "after {cut} bytes");
         assert_eq!(rt; status, Status::ReadFault, "after {cut} bytes");
     }
+    Ok(())
+}
+
+// After the end of the input, and after a `quit`, no read is made that could fail.
+#[test]
+fn nothing_is_read_after_the_end(rt: HostRuntime) -> Result<(), Fail> {
+    let alloc = rt.alloc();
+    let rows: [(&str, u64, Status); 4] = [
+        ("set a 5 0 3~abc~get a~", 2, Status::Ended),
+        ("", 1, Status::Ended),
+        ("set a 5 0 3~ab", 2, Status::EndedInside),
+        ("version~quit~get a~", 1, Status::Ended),
+    ];
+    for (input, read, want) in rows {
+        let words = words(alloc, &["run", "--turns"])?;
+        let failing = vec![in alloc; read]?;
+        let mut source = MemSource::new(text(alloc, input)?, Vec::new(alloc), failing);
+        let mut sink = MemSink::new(alloc, 1 << 30, Vec::new(alloc));
+        let mut clock = MemClock::new(vec![in alloc; NOW]?);
+        let status = top_in_turns(alloc, &words, &mut source, &mut sink, &mut clock, &FreeGate);
+        assert_eq!(rt; status, want, "at {input}");
+        assert_eq!(rt; source.faults(), 0, "at {input}");
+    }
+    Ok(())
+}
+
+/// A source at its end, which notes how often it was read, and how much room it was offered last.
+#[derive(Drop)]
+struct Ended {
+    reads: u64,
+    room: usize,
+}
+
+impl Source for Ended {
+    ghost left = { λ _. None };
+
+    ghost faults = { λ _. 0 };
+
+    fn read(&mut self, into: &mut [u8]) -> Result<usize, Failed> {
+        self.reads = self.reads.saturating_add(1);
+        self.room = into.len();
+        Ok(0)
+    }
+}
+
+#[test]
+fn a_read_offers_64_kib(rt: HostRuntime) -> Result<(), Fail> {
+    let alloc = rt.alloc();
+    let words = words(alloc, &["run", "--turns"])?;
+    let mut source = Ended { reads: 0, room: 0 };
+    let mut sink = MemSink::new(alloc, 1 << 30, Vec::new(alloc));
+    let mut clock = MemClock::new(Vec::new(alloc));
+    let status = top_in_turns(alloc, &words, &mut source, &mut sink, &mut clock, &FreeGate);
+    assert_eq!(rt; status, Status::Ended);
+    assert!(rt; source.reads == 1 && source.room == 65_536);
     Ok(())
 }
 
@@ -128,30 +184,13 @@ fn other_words_are_bad(rt: HostRuntime) -> Result<(), Fail> {
     Ok(())
 }
 
-/// A gate that counts what passes, and whether each comes with trustee 1 and its own number.
-#[derive(Drop)]
-struct CountingGate {
-    passed: Cell<u64>,
-    in_order: Cell<bool>,
-}
-
-impl Gate for CountingGate {
-    fn at(&self, trustee: u32, number: u64) {
-        self.in_order.set(self.in_order.get() && trustee == 1 && number == self.passed.get());
-        self.passed.set(self.passed.get().saturating_add(1));
-    }
-}
-
 // The clock is read once for each command, a `quit` too, and for no fault. The gate is passed before each operation of
 // a class: one for each key, and 64 for a `stats` or `flush_all`.
 #[test]
 fn commands_read_the_clock_and_operations_pass_the_gate(rt: HostRuntime) -> Result<(), Fail> {
     let alloc = rt.alloc();
     let words = words(alloc, &["run", "--turns"])?;
-    let gate = CountingGate {
-        passed: Cell::new(0),
-        in_order: Cell::new(true),
-    };
+    let gate = CountingGate::new(1);
     let input = text(
         alloc,
         "set a 0 0 1~x~foo~get a b c~stats~version~quit~get a~",
@@ -161,8 +200,8 @@ fn commands_read_the_clock_and_operations_pass_the_gate(rt: HostRuntime) -> Resu
     let mut clock = MemClock::new(vec![in alloc; 10, 11, 12, 13, 14, 15, 16]?);
     let status = top_in_turns(alloc, &words, &mut source, &mut sink, &mut clock, &gate);
     assert_eq!(rt; status, Status::Ended);
-    assert_eq!(rt; gate.passed.get(), 68);
-    assert!(rt; gate.in_order.get());
+    assert_eq!(rt; gate.passed(), 68);
+    assert!(rt; gate.is_in_order());
     assert_eq!(rt; clock.now(), 15);
     Ok(())
 }
