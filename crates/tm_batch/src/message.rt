@@ -3,6 +3,7 @@ ghost use Rattle.std.specs.Prelude.{◌≡◌, []};
 ghost use Rattle.tm_batch.specs.declared.message.Request.TheVariants.{Bye};
 ghost use Rattle.tm_batch.specs.declared.message.Answer.TheVariants.{ByeDone};
 
+use crate::limits::{MOST_COMPLETIONS, MOST_LEAVING, MOST_REQUESTS};
 use arrayvec::ArrayVec;
 use tm_seq::Entrusted;
 
@@ -87,12 +88,13 @@ pub struct AnswerBatch<S: Entrusted> {
     /// The length of the trustee's log after the entries of this batch, or `u64::MAX` where that is
     /// greater.
     pub front: u64,
-    /// One answer for each request, in order.
-    pub answers: ArrayVec<Answer<S>, 16>,
-    /// The gifts that waited longest, as many as the batch had room for.
-    pub gifts: ArrayVec<Name, 16>,
-    /// The completions that waited longest.
-    pub completions: ArrayVec<Completion<S>, 16>,
+    /// One answer for each request, in order, at most [`MOST_REQUESTS`].
+    pub answers: ArrayVec<Answer<S>, MOST_REQUESTS>,
+    /// The gifts that waited longest, as many as the batch had room for, at most
+    /// [`MOST_ROOM`](crate::MOST_ROOM).
+    pub gifts: ArrayVec<Name, MOST_LEAVING>,
+    /// The completions that waited longest, at most [`MOST_COMPLETIONS`].
+    pub completions: ArrayVec<Completion<S>, MOST_COMPLETIONS>,
 }
 
 impl<S: Entrusted> AnswerBatch<S> {
