@@ -1,5 +1,5 @@
 -- The limit of a value, written a second time as a number, and tails of blocks, worked by hand. The checker computes them.
-use Rattle.std.proofs.Common.{◌≡◌, ℕ, false, true, List, [], ◌∷◌, pos, refl}
+use Rattle.std.proofs.Common.{◌≡◌, ℕ, true, List, [], ◌∷◌, pos, refl}
 use Rattle.std.specs.Prelude.{codes}
 use Rattle.mc_model.specs.declared.line.Header.{Header}
 use Rattle.mc_model.specs.declared.message.How.TheVariants.{Set}

@@ -1,11 +1,9 @@
 -- The limits of a line, written a second time as numbers, on lines at their edges. The checker computes them.
-use Rattle.std.proofs.Common.{◌≡◌, ℕ, ◌^◌, ◌-◌, true, false, List, [], ◌∷◌, ◌++◌, replicate, length, pos, refl}
+use Rattle.std.proofs.Common.{◌≡◌, true, false, [], ◌∷◌, ◌++◌, replicate, pos, refl}
 use Rattle.std.specs.Prelude.{codes}
-use Rattle.mc_item.specs.declared.limits.TheConstants.{LONGEST_LINE, MOST_KEYS, LONGEST_KEY}
 use Rattle.mc_item.specs.Keys.{is_key}
 use Rattle.mc_item.specs.Numbers.{number_below, digits_below, exptime_of}
 use Rattle.mc_line.specs.declared.storage.TheConstants.{MOST_DECLARED}
-use Rattle.mc_model.specs.declared.line.Header.{Header}
 use Rattle.mc_model.specs.declared.line.Saying.TheVariants.{Alone, Awaits}
 use Rattle.mc_model.specs.declared.message.How.TheVariants.{Set}
 use Rattle.mc_model.specs.declared.message.Fault.TheVariants.{BadLine, LineTooLong, Unknown}

@@ -1,5 +1,5 @@
 -- The limits and the exit statuses, written a second time as numbers, and ends of small runs, worked by hand.
-use Rattle.std.specs.Prelude.{◌≡◌, ℕ, ◌^◌, List, [], ◌∷◌, map}
+use Rattle.std.specs.Prelude.{◌≡◌, ◌^◌, [], ◌∷◌, map}
 use Rattle.std.proofs.Common.{refl}
 use Rattle.mc_session.specs.declared.session.TheConstants.{FULL}
 use Rattle.mc_top.specs.declared.connection.TheConstants.{BUFFER}

@@ -1,5 +1,5 @@
 -- Counts of faults, worked by hand: which count has risen, and that it stands still at the last value of a u64.
-use Rattle.std.proofs.Common.{◌≡◌, ℕ, ◌+◌, ◌-◌, ◌^◌, refl, arith, lit≤}
+use Rattle.std.proofs.Common.{◌≡◌, ◌-◌, ◌^◌, refl, arith, lit≤}
 use Rattle.tm_base.specs.Causes.{one_fault_more, Rose}
 
 stood : Rose 3 3 → ⊥

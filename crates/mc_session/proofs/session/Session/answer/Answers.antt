@@ -1,4 +1,4 @@
-use Rattle.std.proofs.Common.{◌∙◌, ap, refl}
+use Rattle.std.proofs.Common.{◌∙◌, ap}
 use Rattle.mc_session.specs.Session.{Serving}
 use Rattle.mc_session.proofs.AnswerFacts.{answer_begun, gave_up, on_err, under_err}
 use Rattle.mc_session.proofs.session.Session.answer.Goals as goal
