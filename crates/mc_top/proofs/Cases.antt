@@ -1,4 +1,4 @@
--- The limits and the exit statuses, written a second time as numbers, and ends of small runs, worked by hand.
+-- The limits and the exit statuses, written a second time as numbers. The checker computes them.
 use Rattle.std.specs.Prelude.{◌≡◌, ◌^◌, [], ◌∷◌, map}
 use Rattle.std.proofs.Common.{refl}
 use Rattle.mc_session.specs.declared.session.TheConstants.{FULL}

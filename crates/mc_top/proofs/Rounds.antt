@@ -49,6 +49,14 @@ pub ends_unrun : (most : ℕ) (input clock written : Option (List ℕ)) (why : S
 ends_unrun most input clock written why (inl bad) = rw bad refl
 ends_unrun most input clock written why (inr none) = rw none (ends_unbegun most input clock written)
 
+pub unrun_no_read_fault : (why : Status) → (why ≡ status.BadWords) ⊎ (why ≡ status.NoMemory) → why ≢ status.ReadFault
+unrun_no_read_fault why (inl bad) e = absurd (cc)
+unrun_no_read_fault why (inr none) e = absurd (cc)
+
+pub unrun_no_write_fault : (why : Status) → (why ≡ status.BadWords) ⊎ (why ≡ status.NoMemory) → why ≢ status.WriteFault
+unrun_no_write_fault why (inl bad) e = absurd (cc)
+unrun_no_write_fault why (inr none) e = absurd (cc)
+
 module _ (most left : ℕ) (input input_now input_new clock clock_now written written_now : Option (List ℕ)) (reader : Progress) (session : Serving) (g : IsGoing most left input input_now clock clock_now written written_now reader session) where
   fits : length g.text ≤ most
   fits = omega (arith, g.room)

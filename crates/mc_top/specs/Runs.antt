@@ -1,6 +1,7 @@
 -- What a run of the program does.
 use Rattle.std.specs.Prelude.{◌≡◌, ◌≢◌, ℕ, ◌≤◌, ◌<◌, ◌⊎◌, true, false, List, [], ◌∷◌, ◌++◌, length, map, take, Option, Some, codes, string_bytes, String}
 use Rattle.std.specs.declared.alloc.Global.{Global}
+use Rattle.tm_base.specs.Causes.{Rose}
 use Rattle.tm_base.specs.Visible.{Grows}
 use Rattle.mc_model.specs.declared.message.Message.{Message}
 use Rattle.mc_model.specs.declared.reply.ShardReply.{ShardReply}
@@ -121,6 +122,11 @@ Does most WriteFault before after = IsBegun most before after
 Does most NoMemory before after = IsBegun most before after
 Does most BadWords before after = after ≡ before
 
--- what a run of the whole program has done that ends the process with this exit status
-abbrev pub Exits : ℕ → DeviceViews → DeviceViews → Type 0
-Exits number before after = (status : Status) × (number ≡ number_of status) × Does MOST_INPUT status before after
+-- What a run of the whole program has done that ends the process with this exit status. A fault is told only where the device's count
+-- of faults rose.
+pub record Exits (number : ℕ) (before after : DeviceViews) (read_faults read_faults_new write_faults write_faults_new : ℕ) : Type 0 where
+  pub status : Status
+  pub is_exit : number ≡ number_of status
+  pub does : Does MOST_INPUT status before after
+  pub read_cause : status ≡ ReadFault → Rose read_faults read_faults_new
+  pub write_cause : status ≡ WriteFault → Rose write_faults write_faults_new

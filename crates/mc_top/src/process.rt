@@ -1,6 +1,7 @@
 //! The program as a process: its words, its clock, and how it ends.
 ghost use Rattle.std.specs.Prelude.{◌≡◌, ◌⊎◌, None, IfErr};
 ghost use Rattle.std.specs.Process.{exit_status};
+ghost use Rattle.tm_base.specs.Causes.{Rose};
 ghost use Rattle.mc_top.specs.Statuses.{number_of};
 ghost use Rattle.mc_top.specs.Runs.{views, Does, Exits};
 
@@ -27,9 +28,11 @@ fn run<R: Env + AllocGlobal + Clock, A: Source, B: Sink>(
     input: &mut A,
     output: &mut B,
 ) -> Status
-    ensures { Does MOST_INPUT result
+    ensures does { Does MOST_INPUT result
         (views (A.left input.old) None (B.written output.old))
         (views (A.left input.new) None (B.written output.new)) }
+    ensures read_cause { result ≡ Status.ReadFault → Rose (A.faults input.old) (A.faults input.new) }
+    ensures write_cause { result ≡ Status.WriteFault → Rose (B.faults output.old) (B.faults output.new) }
 {
     let words = match words_of(rt) {
         Ok(words) => words,
@@ -60,7 +63,8 @@ pub fn run_process<R: Env + AllocGlobal + Eprint + Clock, A: Source, B: Sink>(
     // The exit status is that of a run that read and wrote so. What is said on standard error is no part of the output.
     ensures { Exits (exit_status result)
         (views (A.left input.old) None (B.written output.old))
-        (views (A.left input.new) None (B.written output.new)) }
+        (views (A.left input.new) None (B.written output.new))
+        (A.faults input.old) (A.faults input.new) (B.faults output.old) (B.faults output.new) }
 {
     let status = run(rt, input, output);
     conclude(rt, status)
