@@ -24,7 +24,7 @@ pub const LONGEST_KEY: usize = 250;
 /// The most keys of one command.
 pub const MOST_KEYS: usize = 1_024;
 
-/// The most bytes of a line before its line feed.
+/// The most bytes of a line, its line feed among them.
 pub const LONGEST_LINE: usize = 65_536;
 
 /// The most digits of an unsigned number.
