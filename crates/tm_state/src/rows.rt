@@ -3,13 +3,13 @@ ghost use Rattle.std.specs.Prelude.{◌≡◌};
 ghost use Rattle.tm_batch.specs.declared.message.Request.TheVariants.{Entrust, Apply, Launch, Grant, Release, Reclaim, Bye};
 ghost use Rattle.tm_state.specs.Asking.{IsServable, HasServed};
 
-use crate::estate::Estate;
+use crate::state::TrusteeState;
 use crate::work::Work;
 use tm_batch::{Answer, Name, Request};
 use tm_objects::More;
 use tm_seq::Entrusted;
 
-impl<S: Entrusted> Estate<S> {
+impl<S: Entrusted> TrusteeState<S> {
     /// Serves a request of a place by its row. The counts of requests and entries stay.
     pub(crate) fn serve(&mut self, place: u32, request: Request<S>) -> Answer<S>
         requires { IsServable S.kind place request self.old }
