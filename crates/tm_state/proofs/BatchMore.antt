@@ -29,7 +29,7 @@ use Rattle.tm_state.specs.Represents.{Represents}
 use Rattle.tm_state.specs.Asking.{MayRun, IsRunnable, HasRun, MayRunBatch, IsAnswerable, HasRunAll}
 
 module _ {X : Type 0} where
-  -- the item at a position of two lists that are the same from there on, where `item` stands for it
+  -- the item at a position of two lists that are the same from there on, where `item` represents it
   pub same_item : (xs ys : List X) (i : ℕ) (item x : X) → drop i xs ≡ drop i ys → item ≡ get_or xs i item → x ≡ get_or xs i item → get_or ys i x ≡ x
   same_item xs ys i item x e is here =
       let at : (l : List X) → get_or (drop i l) 0 item ≡ get_or l i item = λ l. get_or-drop i l 0 item ∙ ap (λ n. get_or l n item) (omega arith) in
@@ -93,7 +93,7 @@ module _ {V O R T : Type 0} where
         let own = ap launches_in (ran_entries c k b answers many) in
         omega (arith, all, own)
 
-    -- whatever log `old` stands for, `h` stands for it and the entries of the first i requests of the batch b
+    -- whatever log `old` represents, `h` represents it and the entries of the first i requests of the batch b
     abbrev pub HasRunFront : ℕ → List (Request V O R T) → ℕ → List (Answer V O R T) → StateView V → StateView V → Type 0
     HasRunFront c b i answers old h =
         (opening : State V O R T) (log : List (Entry V O R T)) → MayRunBatch kind opening log c b old
@@ -168,7 +168,7 @@ module _ {V O R T : Type 0} where
           ∙ ap (λ l. log ++ entries_by c k l (answers ++ a ∷ [])) (take_more b i q lt ∙ ap (λ z. take i b ++ z ∷ []) is)
           ∙ ap (λ l. log ++ l) (entries-append c k (take i b) answers q a as_many)
           ∙ sym (append_assoc log es (By c (k + length (take i b)) q a ∷ [])) ∙ ap (λ n. (log ++ es) ++ By c n q a ∷ []) count in
-          subst (λ l. Represents kind opening l new) (sym all) stands
+          subst (λ l. Represents kind opening l new) (sym all) represents
 
     pub all_run :
         (c : ℕ) (b : List (Request V O R T)) (i : ℕ) (answers : List (Answer V O R T)) (old new : StateView V) → i ≡ length b → length answers ≡ i

@@ -1,4 +1,4 @@
--- One request behind a log: what is asked of its row, and what the log stands for then.
+-- One request behind a log: what is asked of its row, and what the log represents then.
 use Rattle.std.proofs.Common.{◌≡◌, ℕ, ◌+◌, ◌-◌, ◌^◌, ◌<◌, min, List, [], ◌∷◌, ◌++◌, length, sym, ap, subst, arith, length-append}
 use Rattle.tm_seq.specs.Kind.{Kind}
 use Rattle.tm_batch.specs.declared.message.Request.{Request}
@@ -37,7 +37,7 @@ module _ {V O R T : Type 0} where
     pub servable : (c : ℕ) (q : Request V O R T) (h : StateView V) → IsRunnable kind c q h → IsServable kind c q h
     servable c q h (opening, log, may) = (opening, state_after kind opening log, asked opening log c q h may)
 
-    -- a log that stands for what a trustee has stands for it with one entry more
+    -- a log that represents what a trustee has represents it with one entry more
     pub has_run :
         (c : ℕ) (q : Request V O R T) (a : Answer V O R T) (old mid was : StateView V) (run entries : ℕ) → was ≡ mid
         → run ≡ min (was.run + 1) (2 ^ 64 - 1) → entries ≡ min (was.entries + 1) (2 ^ 64 - 1)

@@ -5,7 +5,7 @@ use Rattle.std.specs.List.{AllByRecursion}
 use Rattle.std.proofs.lemmas.Bool.{cases_eq}
 use Rattle.std.proofs.lemmas.List.{get_or-map, length-map, map-append, map-set}
 use Rattle.tm_seq.specs.Kind.{Kind}
-use Rattle.tm_batch.specs.declared.TheConstants.{WINDOW}
+use Rattle.tm_batch.specs.declared.limits.TheConstants.{WINDOW}
 use Rattle.tm_batch.specs.declared.message.Name.{Name}
 use Rattle.tm_batch.specs.declared.message.Request.TheVariants.{Launch}
 use Rattle.tm_batch.specs.declared.message.Answer.TheVariants.{Launched}

@@ -32,7 +32,7 @@ module _ {V T : Type 0} where
       ]
 
 module _ {V O R T : Type 0} where
-  -- the object of an id that a place holds, in a state and in the stock that stands for it
+  -- the object of an id that a place holds, in a state and in the stock that represents it
   pub record HeldAt (s : State V O R T) (h : StateView V) (c id : ℕ) : Type 0 where
     pub object : Object V T
     pub found : object_of s.live id ≡ Some object

@@ -3,7 +3,7 @@ use Rattle.std.proofs.Common.{ℕ, zero, suc, ◌+◌, ◌*◌, ◌^◌, ◌<◌
 use Rattle.std.specs.List.{AllByRecursion}
 use Rattle.std.proofs.lemmas.Bool.{cases_eq}
 use Rattle.std.proofs.lemmas.List.Sums.{sum_by-cons}
-use Rattle.tm_batch.specs.declared.TheConstants.{WINDOW}
+use Rattle.tm_batch.specs.declared.limits.TheConstants.{WINDOW}
 use Rattle.tm_batch.specs.declared.message.Request.{Request}
 use Rattle.tm_model.specs.State.{Work, State, place_count}
 use Rattle.tm_model.specs.Holds.{works_of}

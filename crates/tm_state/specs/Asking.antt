@@ -1,7 +1,7 @@
 -- What may be asked of a trustee, and what it does.
 use Rattle.std.specs.Prelude.{◌≡◌, ℕ, ◌+◌, ◌-◌, ◌^◌, ◌<◌, ◌≤◌, min, Bool, true, List, [], ◌∷◌, ◌++◌, length, take, IsTrue, ◌↔◌}
 use Rattle.tm_seq.specs.Kind.{Kind}
-use Rattle.tm_batch.specs.declared.TheConstants.{WINDOW}
+use Rattle.tm_batch.specs.declared.limits.TheConstants.{WINDOW}
 use Rattle.tm_batch.specs.declared.message.Request.{Request}
 use Rattle.tm_batch.specs.declared.message.Answer.{Answer}
 use Rattle.tm_batch.specs.declared.message.AnswerBatch.{AnswerBatch}
@@ -55,7 +55,7 @@ module _ {V O R T : Type 0} where
   abbrev pub IsRunnable : Kind V O R T → ℕ → Request V O R T → StateView V → Type 0
   IsRunnable kind c q h = (opening : State V O R T) × (log : List (Entry V O R T)) × MayRun kind opening log c q h
 
-  -- whatever log it stands for, it stands now for that log and the entry of the request
+  -- whatever log it represents, it represents now that log and the entry of the request
   abbrev pub HasRun : Kind V O R T → ℕ → Request V O R T → Answer V O R T → StateView V → StateView V → Type 0
   HasRun kind c q a old new =
       (opening : State V O R T) (log : List (Entry V O R T)) → MayRun kind opening log c q old
@@ -69,7 +69,7 @@ module _ {V O R T : Type 0} where
     pub settled : IsSettled mark_of c log
     pub told : IsPromised kind opening log c b
 
-  -- whatever log it stands for, there is one answer for each request of the batch b, and it stands for that log and their entries then
+  -- whatever log it represents, there is one answer for each request of the batch b, and it represents that log and their entries then
   abbrev pub HasRunAll : Kind V O R T → ℕ → List (Request V O R T) → List (Answer V O R T) → StateView V → StateView V → Type 0
   HasRunAll kind c b answers old new =
       (opening : State V O R T) (log : List (Entry V O R T)) → MayRunBatch kind opening log c b old
@@ -78,7 +78,7 @@ module _ {V O R T : Type 0} where
   abbrev pub IsAnswerable : Kind V O R T → ℕ → List (Request V O R T) → StateView V → Type 0
   IsAnswerable kind c b h = (opening : State V O R T) × (log : List (Entry V O R T)) × MayRunBatch kind opening log c b h
 
-  -- whatever log it stands for, that log may grow by the batch b with its room, answered by a, and it stands for the longer log then
+  -- whatever log it represents, that log may grow by the batch b with its room, answered by a, and it represents the longer log then
   abbrev pub HasAnswered : Kind V O R T → ℕ → List (Request V O R T) → ℕ → AnswerBatch V O R T → StateView V → StateView V → Type 0
   HasAnswered kind c b room a old new =
       (opening : State V O R T) (log : List (Entry V O R T)) → MayRunBatch kind opening log c b old
@@ -89,8 +89,8 @@ module _ {V O R T : Type 0} where
   MayLeave kind c h =
       (opening : State V O R T) × (log : List (Entry V O R T)) × Represents kind opening log h × (c < place_count opening.setup)
 
-  -- whatever log it stands for, and where place c is one of the table: the gifts of a are those that leave with a room for place c, its
-  -- front is the length of the log with their entry, and it stands for that longer log then
+  -- whatever log it represents, and where place c is one of the table: the gifts of a are those that leave with a room for place c, its
+  -- front is the length of the log with their entry, and it represents that longer log then
   abbrev pub HasLeft : Kind V O R T → ℕ → ℕ → AnswerBatch V O R T → StateView V → StateView V → Type 0
   HasLeft kind c room a old new =
       (opening : State V O R T) (log : List (Entry V O R T)) → Represents kind opening log old → c < place_count opening.setup
@@ -102,7 +102,7 @@ module _ {V O R T : Type 0} where
   abbrev pub HaveAllEnded : State V O R T → List (Entry V O R T) → Type 0
   HaveAllEnded opening log = (c : ℕ) → c < place_count opening.setup → has_bye (ran c log) ≡ true
 
-  -- whatever log a trustee stands for, the answer tells whether every place has said Bye by it
+  -- whatever log a trustee represents, the answer tells whether every place has said Bye by it
   abbrev pub TellsEnd : Kind V O R T → StateView V → Bool → Type 0
   TellsEnd kind h answer =
       (opening : State V O R T) (log : List (Entry V O R T)) → Represents kind opening log h → IsTrue answer ↔ HaveAllEnded opening log

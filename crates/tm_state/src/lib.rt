@@ -2,12 +2,12 @@
 //! accepted.
 //!
 //! A [`TrusteeState`] runs batches of requests, each request by its row, and gives the answers that leave. It knows
-//! no table and no side: contracts say for which log of the trustee it stands.
+//! no table and no side: contracts say which log of the trustee it represents.
 #![tactic(auto)]
 
-mod state;
 mod placing;
 mod rows;
+mod state;
 mod work;
 
 pub use state::TrusteeState;

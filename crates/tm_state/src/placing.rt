@@ -30,6 +30,7 @@ pub(crate) fn place_on<S: Entrusted>(objects: &mut Objects<S>, object: First<S>)
     requires { MayPlace object objects.old }
     ensures { objects.new ≡ placed S.Task object objects.old }
 {
+    // What holds of any stock says that its counts fit.
     objects.known();
     let First { value, holders, .. } = object;
     let places = holders.places();

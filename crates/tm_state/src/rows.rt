@@ -90,6 +90,7 @@ impl<S: Entrusted> TrusteeState<S> {
         ensures run { self.new.run ≡ self.old.run }
         ensures entries { self.new.entries ≡ self.old.entries }
     {
+        // Whether the object went changes no answer.
         let _ = self.objects.release(name, place);
         Answer::Released
     }
@@ -112,6 +113,7 @@ impl<S: Entrusted> TrusteeState<S> {
         ensures run { self.new.run ≡ self.old.run }
         ensures entries { self.new.entries ≡ self.old.entries }
     {
+        // Nor does how many objects go.
         let _ = self.objects.drop_client(place);
         self.closed[place as usize] = true;
         Answer::ByeDone

@@ -37,7 +37,7 @@ pub struct TrusteeState<S: Entrusted> {
 
 impl<S: Entrusted> Model for TrusteeState<S> {
     ghost use Rattle.std.specs.Prelude.{◌+◌, ◌≤◌, map, All, vec_capacity};
-    ghost use Rattle.tm_batch.specs.declared.TheConstants.{WINDOW};
+    ghost use Rattle.tm_batch.specs.declared.limits.TheConstants.{WINDOW};
     ghost use Rattle.tm_state.specs.StateView.{StateView, state_view_code};
 
     ghost Value = { StateView S };

@@ -1,5 +1,5 @@
 use Rattle.std.proofs.Common.{◌≡◌, ℕ, ◌≤◌, List, [], map, All, replicate, vec_len, vec_capacity}
-use Rattle.tm_batch.specs.declared.TheConstants.{WINDOW}
+use Rattle.tm_batch.specs.declared.limits.TheConstants.{WINDOW}
 use Rattle.tm_state.proofs.placing.no_launches.Given as goal
 
 -- no launch of each place so far, with the room of it
