@@ -1,6 +1,4 @@
 pub mod Handing
+pub mod Keeping
 pub mod Nothing
-mod Opening
 mod Returning
-mod Stepping
-mod Tabling

@@ -1,11 +1,7 @@
 pub mod Calls
 pub mod Moves
-pub mod Opened
 pub mod Places
-pub mod Plain
 pub mod Rounds
-pub mod Shown
 pub mod Sides
-pub mod Standing
-pub mod Stands
+pub mod Theory
 pub mod Views

@@ -24,9 +24,9 @@ module _ {V O R T : Type 0} where
   abbrev pub after_move : Move V O R T → FullCore V O R T → FullCore V O R T
   after_move (Open places) core = first_core places
   after_move (Publish c batch) core = publish c batch.requests.items batch.room core
-  after_move (See c) core = see c core
+  after_move (See c found) core = see c core
   after_move (Answer c resumes a) core = answer_taken (slot_of core c).box c resumes.items a core
-  after_move (Collect c) core = collect c core
+  after_move (Collect c found) core = collect c core
 
   abbrev pub after_moves : List (Move V O R T) → FullCore V O R T → FullCore V O R T
   after_moves [] core = core
