@@ -1,10 +1,4 @@
-pub mod AboveBye
-pub mod AboveSteps
-pub mod BegunServing
 pub mod Elements
-pub mod Serving
-pub mod TurningAbove
-pub mod TurningLooks
-pub mod TurningMoved
-pub mod TurningTables
-pub mod TurningTold
+pub mod Keeping
+pub mod AboveSteps
+pub mod AboveBye

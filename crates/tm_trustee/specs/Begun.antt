@@ -8,9 +8,7 @@ use Rattle.tm_model.specs.State.{State}
 use Rattle.tm_model.specs.Opening.{opening_of}
 use Rattle.tm_state.specs.Opened.{MayOpen}
 use Rattle.tm_pair.specs.Views.{ClientView, TrusteeView, hand_of}
-use Rattle.tm_trustee.specs.Above.{IsAt}
-use Rattle.tm_trustee.specs.Standing.{AreNested}
-use Rattle.tm_trustee.specs.declared.stage.Stage.TheVariants.{Before}
+use Rattle.tm_trustee.specs.Serving.{AreNested}
 
 module _ {V O R T : Type 0} where
   -- the parts of the trustee of an opening state, by its number, a config and a whole list of the build: the objects placed on it, those
@@ -29,4 +27,5 @@ module _ {V O R T : Type 0} where
   -- so is a side above: it has the place of a trustee, and sent nothing
   pub record IsNewSeat (c : ℕ) (view : ClientView V O R T) : Type 0 where
     pub place : view.place ≡ c
-    pub before : IsAt Before view
+    pub sent : view.sent ≡ []
+    pub out : view.out ≡ None
