@@ -1,7 +1,11 @@
 pub mod Calls
 pub mod Moves
+pub mod Opened
 pub mod Places
+pub mod Plain
 pub mod Rounds
+pub mod Shown
+pub mod SideViews
 pub mod Sides
 pub mod Theory
 pub mod Views
