@@ -117,7 +117,7 @@ module _ {V O R T : Type 0} where
           let s = state_after kind opening log in
           let t = state_after kind opening (log ++ es) in
           let represents = ran_front opening log may in
-          let told = may.told in
+          let promised = may.promised in
           let sound = states_are_sound kind opening (log ++ es) represents.opens represents.is_legal in
           let split = parts b i q lt is in
           let behind = ((legal_logs_join kind opening log es).0 represents.is_legal).1 in
@@ -128,23 +128,23 @@ module _ {V O R T : Type 0} where
           ap launches_in split ∙ launches_in-append (take i b) (q ∷ drop (i + 1) b) in
           let in_rest : launches_in (q ∷ drop (i + 1) b) ≡ launches_in (q ∷ []) + launches_in (drop (i + 1) b) =
           launches_in-append (q ∷ []) (drop (i + 1) b) in
-          let most = told.launches in
+          let most = promised.launches in
           let none : (place_of t c).ready ≡ [] = all_at (λ p. p.ready ≡ []) t.places c no_place refl represents.keeps.ready in
           let none_ready : length (place_of t c).ready ≡ 0 = ap length none in
           record {
             represents = represents;
             may = record {
               in_range = subst (λ z. c < place_count z) (sym sound.setup) may.in_range;
-              held = λ id names. told.held [] answers (take i b) (drop (i + 1) b) q id split names tt as_many represents.is_legal;
+              held = λ id names. promised.held [] answers (take i b) (drop (i + 1) b) q id split names tt as_many represents.is_legal;
               grants =
                   subst (λ z. GrantsBelow z.config.clients q) (sym sound.setup)
                   (all_within (GrantsBelow opening.setup.config.clients) (take i b) (drop (i + 1) b) q
-                  (subst (λ l. AllByRecursion (GrantsBelow opening.setup.config.clients) l) split told.grants));
+                  (subst (λ l. AllByRecursion (GrantsBelow opening.setup.config.clients) l) split promised.grants));
               launches = omega (arith, grown, live, in_all, in_rest, most, none_ready);
               bye = λ bye.
                   let whole : has_bye b ≡ true =
                   subst (λ l. has_bye l ≡ true) (sym split) (bye_behind (take i b) (q ∷ drop (i + 1) b) (bye_more (q ∷ []) (drop (i + 1) b) bye)) in
-                  let (alone, ended, ready) = told.bye whole in
+                  let (alone, ended, ready) = promised.bye whole in
                   let none : launches_in b ≡ 0 = ap launches_in alone in
                   omega (arith, grown, live, in_all, ended, ready, none);
             };

@@ -67,7 +67,7 @@ module _ {V O R T : Type 0} where
     pub represents : Represents kind opening log h
     pub in_range : c < place_count opening.setup
     pub settled : IsSettled mark_of c log
-    pub told : IsPromised kind opening log c b
+    pub promised : IsPromised kind opening log c b
 
   -- whatever log it represents, there is one answer for each request of the batch b, and it represents that log and their entries then
   abbrev pub HasRunAll : Kind V O R T → ℕ → List (Request V O R T) → List (Answer V O R T) → StateView V → StateView V → Type 0

@@ -21,22 +21,26 @@ module _ {V O R T Table Client Owner : Type 0} (theory : Theory V O R T Table Cl
     pub saw : theory.Did (See c None) was now
     pub keeps : KeepsClients theory was now new
 
-  -- it found a batch there, and answered it by legal entries, behind what was resumed since its last answer
-  pub record AnswersPlace (c : ℕ) (was now : Table) (old new : Owner) : Type 0 where
-    pub batch : Batch V O R T
+  -- it answered the batch of place c in hand by legal entries, behind what was resumed since its last answer
+  pub record HasReplied (c : ℕ) (was now : Table) (old new : Owner) : Type 0 where
     pub resumes : List (Entry V O R T)
     pub answers : AnswerBatch V O R T
+    pub only : AreResumes resumes
+    pub may : MayAnswer kind opening c resumes answers (theory.trustee_view old)
+    pub answered : HasAnswered c resumes answers (theory.trustee_view old) (theory.trustee_view new)
+    pub did : theory.Did (answer_of c resumes answers) was now
+    pub keeps : KeepsClients theory was now new
+
+  -- it found a batch at place c, and answered it
+  pub record AnswersPlace (c : ℕ) (was now : Table) (old new : Owner) : Type 0 where
+    pub batch : Batch V O R T
     -- the table and its side between the look and the answer
     pub between : Table
     pub mid : Owner
     pub takes : Takes kind opening c batch.requests.items batch.room (theory.trustee_view old) (theory.trustee_view mid)
     pub saw : theory.Did (See c (Some batch)) was between
     pub keeps : KeepsClients theory was between mid
-    pub only : AreResumes resumes
-    pub may : MayAnswer kind opening c resumes answers (theory.trustee_view mid)
-    pub answered : HasAnswered c resumes answers (theory.trustee_view mid) (theory.trustee_view new)
-    pub did : theory.Did (answer_of c resumes answers) between now
-    pub keeps_on : KeepsClients theory between now new
+    pub replied : HasReplied c between now mid new
 
   -- it did one of the two
   abbrev pub ServesPlace : ℕ → Table → Table → Owner → Owner → Type 0

@@ -26,6 +26,10 @@ module _ {V O R T : Type 0} where
   resumes_in (By c k q a ∷ es) = resumes_in es
   resumes_in (Sent c room ∷ es) = resumes_in es
 
+  -- what a trustee has done grew by entries none of which is a resume
+  abbrev pub GoesOn : List (Entry V O R T) → List (Entry V O R T) → Type 0
+  GoesOn old new = (es : List (Entry V O R T)) × (new ≡ old ++ es) × (resumes_in es ≡ 0)
+
   -- what a trustee has is current: it represents the log of its side and then what was resumed since its last answer
   pub record IsCurrent (kind : Kind V O R T) (opening : State V O R T) (log since : List (Entry V O R T)) (state : StateView V) : Type 0 where
     pub represents : Represents kind opening (log ++ since) state

@@ -5,6 +5,7 @@
 #![tactic(auto)]
 
 mod above;
+mod places;
 mod served;
 mod stage;
 mod trustee;
