@@ -1,5 +1,5 @@
 -- Behind resumes a batch is promised still, and what a trustee has is current once it has answered one.
-use Rattle.std.proofs.Common.{◌≡◌, ℕ, ◌+◌, ◌<◌, true, List, [], ◌∷◌, ◌++◌, length, refl, sym, ◌∙◌, ap, subst, arith, append_assoc, append-nil}
+use Rattle.std.proofs.Common.{◌≡◌, ℕ, ◌+◌, ◌-◌, ◌^◌, ◌<◌, min, true, List, [], ◌∷◌, ◌++◌, length, refl, sym, ◌∙◌, ap, subst, arith, append_assoc, append-nil}
 use Rattle.std.specs.Prelude.{IsSomeAnd}
 use Rattle.std.specs.declared.option.Option.{Option}
 use Rattle.std.specs.declared.option.Option.TheVariants.{Some}
@@ -25,7 +25,7 @@ use Rattle.tm_core.proofs.LaunchLog.{log_launches}
 use Rattle.tm_core.proofs.Marks.{ran-append, none_not_of, settled-append, settled_none}
 use Rattle.tm_core.proofs.Ordered.{opening_ordered, log_ordered}
 use Rattle.tm_state.specs.StateView.{StateView}
-use Rattle.tm_state.specs.Represents.{Represents}
+use Rattle.tm_state.specs.Represents.{Represents, requests_in}
 use Rattle.tm_state.specs.Asking.{MayRunBatch, HasAnswered as HasRunIt}
 use Rattle.tm_pair.specs.Views.{BatchView, TrusteeView, hand_of}
 use Rattle.tm_pair.specs.Calls.{MayAnswer, HasAnswered}
@@ -192,3 +192,19 @@ module _ {V O R T : Type 0} where
 
   pub goes_as : (old log same since : List (Entry V O R T)) → same ≡ log → GoesOn old (log ++ since) → GoesOn old (same ++ since)
   goes_as old log same since is goes = subst (λ l. GoesOn old (l ++ since)) (sym is) goes
+
+  requests_in-resumes : (log es : List (Entry V O R T)) → AreResumes es → requests_in (log ++ es) ≡ requests_in log
+  requests_in-resumes [] [] only = refl
+  requests_in-resumes [] (Resume id ticket event next ∷ es) only = requests_in-resumes [] es only
+  requests_in-resumes [] (By d k q a ∷ es) only = absurd only
+  requests_in-resumes [] (Sent d room ∷ es) only = absurd only
+  requests_in-resumes (By d k q a ∷ log) es only = ap (λ n. 1 + n) (requests_in-resumes log es only)
+  requests_in-resumes (Resume id ticket event next ∷ log) es only = requests_in-resumes log es only
+  requests_in-resumes (Sent d room ∷ log) es only = requests_in-resumes log es only
+
+  -- how many requests were run is how many are in the log
+  pub run_behind :
+      (kind : Kind V O R T) (opening : State V O R T) (log since : List (Entry V O R T)) (state : StateView V) → IsCurrent kind opening log since state
+      → state.run ≡ min (requests_in log) (2 ^ 64 - 1)
+  run_behind kind opening log since state current =
+      current.represents.run ∙ ap (λ n. min n (2 ^ 64 - 1)) (requests_in-resumes log since current.only)

@@ -1,20 +1,17 @@
 -- What a look at a place, and an answer, leave of a trustee's own side.
-use Rattle.std.proofs.Common.{◌≡◌, ◌≢◌, ℕ, ◌+◌, ◌<◌, ◌≤◌, zero, suc, cond, Bool, true, false, List, [], ◌∷◌, ◌++◌, length, slice_index_or, slice_set, inl, inr, refl, sym, ◌∙◌, ap, subst, arith, append_assoc, append-nil, get_or-set_same, get_or-set_other, length-set}
-use Rattle.std.specs.Prelude.{IsSomeAnd}
+use Rattle.std.proofs.Common.{◌≡◌, ◌≢◌, ℕ, ◌+◌, ◌<◌, ◌≤◌, zero, suc, cond, Bool, true, false, List, length, slice_index_or, slice_set, inl, inr, refl, sym, ◌∙◌, ap, subst, arith, get_or-set_same, get_or-set_other, length-set}
 use Rattle.std.specs.declared.option.Option.{Option}
 use Rattle.std.specs.declared.option.Option.TheVariants.{None, Some}
 use Rattle.std.proofs.lemmas.Bool.{cases_eq, cases_lt}
 use Rattle.std.proofs.lemmas.List.{get_or_past}
 use Rattle.tm_seq.specs.Kind.{Kind}
 use Rattle.tm_batch.specs.declared.batch.Batch.{Batch}
-use Rattle.tm_batch.specs.declared.message.AnswerBatch.{AnswerBatch}
-use Rattle.tm_model.specs.declared.entry.Entry.{Entry}
 use Rattle.tm_model.specs.State.{State, place_count}
 use Rattle.tm_model.specs.Slots.{Looks, looked}
 use Rattle.tm_pair.specs.Views.{BatchView, TrusteeView, hand_of, looks_at, no_looks}
-use Rattle.tm_pair.specs.Calls.{LooksAt, Takes, HasAnswered}
+use Rattle.tm_pair.specs.Calls.{LooksAt, Takes}
 use Rattle.tm_pair.specs.Sides.{IsGoodTrustee}
-use Rattle.tm_pair.specs.Theory.{Theory, KeepsClients, TheoryLaws}
+use Rattle.tm_pair.specs.Theory.{Theory}
 use Rattle.tm_trustee.specs.Places.{ServesPlace, ServesBelow, found_below}
 
 pub at_most_one : (more : Bool) → cond more 1 0 ≤ 1

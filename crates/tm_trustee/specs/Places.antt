@@ -6,7 +6,7 @@ use Rattle.tm_batch.specs.declared.batch.Batch.{Batch}
 use Rattle.tm_batch.specs.declared.message.AnswerBatch.{AnswerBatch}
 use Rattle.tm_model.specs.declared.entry.Entry.{Entry}
 use Rattle.tm_model.specs.Entries.{AreResumes}
-use Rattle.tm_model.specs.State.{State}
+use Rattle.tm_model.specs.State.{State, place_count}
 use Rattle.tm_pair.specs.Views.{TrusteeView, looks_at}
 use Rattle.tm_pair.specs.Calls.{SeesNothing, Takes, MayAnswer, HasAnswered}
 use Rattle.tm_pair.specs.Moves.{answer_of}
@@ -52,6 +52,11 @@ module _ {V O R T Table Client Owner : Type 0} (theory : Theory V O R T Table Cl
   ServesBelow (suc n) was now old new =
       (between : Table) × (mid : Owner) × ServesBelow n was between old mid × theory.HasTrustee between mid
       × ServesPlace n between now mid new
+
+module _ {V O R T Table Client Owner : Type 0} (theory : Theory V O R T Table Client Owner) (kind : Kind V O R T) where
+  -- it served all places of its table, in order
+  abbrev pub ServesAll : Table → Table → Owner → Owner → Type 0
+  ServesAll was now old new = ServesBelow theory kind (theory.opening was) (place_count (theory.opening was).setup) was now old new
 
 module _ {V O R T : Type 0} where
   -- at how many places below n the last look found a batch

@@ -37,6 +37,15 @@ module _ {V O R T Table Client Owner : Type 0} (theory : Theory V O R T Table Cl
     pub lower : (t : ℕ) → t < from → slice_get new t ≡ slice_get old t
     pub others : Pairwise (KeepsOthers place) old new
 
+  -- what serving its own table leaves of tables: the others stay, and the one of the number keeps all clients' sides
+  pub record KeepsOwn (old new : List Table) (number : ℕ) : Type 0 where
+    pub as_many : length new ≡ length old
+    pub others : (t : ℕ) → t ≢ number → slice_get new t ≡ slice_get old t
+    pub same : Pairwise theory.Same old new
+    pub openings : Pairwise (λ was now. theory.opening now ≡ theory.opening was) old new
+    pub clients : (was now : Table) → slice_get old number ≡ Some was → slice_get new number ≡ Some now
+        → (other : Client) → theory.HasClient was other → theory.HasClient now other
+
   -- what a turn of trustee `number`, which has that place above, leaves of tables: all are the same still, those below it stay, and its
   -- own keeps all clients' sides
   pub record KeepsTables (old new : List Table) (number place : ℕ) : Type 0 where

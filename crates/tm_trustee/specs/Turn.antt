@@ -1,13 +1,15 @@
 -- What a turn of a trustee does.
-use Rattle.std.specs.Prelude.{◌≡◌, ℕ, ◌+◌, ◌-◌, ◌^◌, ◌<◌, ◌≤◌, min, List, length, All}
+use Rattle.std.specs.Prelude.{◌≡◌, ℕ, ◌+◌, ◌-◌, ◌^◌, ◌<◌, ◌≤◌, min, List, All, slice_get}
+use Rattle.std.specs.declared.option.Option.TheVariants.{Some}
 use Rattle.tm_seq.specs.Kind.{Kind}
 use Rattle.tm_model.specs.State.{State, place_count}
 use Rattle.tm_model.specs.Lists.{IsPrefix}
 use Rattle.tm_state.specs.Asking.{HaveAllEnded}
 use Rattle.tm_pair.specs.Views.{ClientView, TrusteeView, looks_at}
 use Rattle.tm_pair.specs.Theory.{Theory}
-use Rattle.tm_trustee.specs.Places.{ServesBelow, found_below}
-use Rattle.tm_trustee.specs.Above.{IsAt, GoesUp, Each, all_moves_up}
+use Rattle.tm_trustee.specs.Places.{ServesAll, found_below}
+use Rattle.tm_trustee.specs.Above.{IsAt, GoesUp, GoesUpAt, Each, all_moves_up}
+use Rattle.tm_trustee.specs.AboveAt.{EachAt}
 use Rattle.tm_trustee.specs.Serving.{resumes_in, done_by, ups_of}
 use Rattle.tm_trustee.specs.declared.stage.Stage.TheVariants.{Over}
 use Rattle.tm_trustee.specs.declared.served.Served.{Served}
@@ -40,10 +42,17 @@ module _ {V O R T Table Client Owner : Type 0} (theory : Theory V O R T Table Cl
       found_below places (theory.trustee_view u.side) + (resumes_in (done_by theory u) - resumes_in (done_by theory t))
       + all_moves_up (ups_of theory t) (ups_of theory u)
 
+  -- what a turn of a trustee from `t` to `u` did at its sides above: it looked for the answer to each Bye of its own that is out, and says
+  -- Bye once all below have
+  abbrev pub HasGoneUp : List Table → List Table → Trustee V Table O R T Client Owner → Trustee V Table O R T Client Owner → Type 0
+  HasGoneUp old new t u =
+      (was : Table) → slice_get old t.number ≡ Some was
+      → EachAt (GoesUpAt theory (HaveAllEnded (theory.opening was) (theory.trustee_view u.side).log)) (t.number + 1) old new t.above.items u.above.items
+
   -- a turn of a trustee from `t` to `u`, and of its own table from `was` to `now`, which said `served`
   pub record HasTurned (kind : Kind V O R T) (was now : Table) (t u : Trustee V Table O R T Client Owner) (served : Served) : Type 0 where
     -- it looked once at each place of its table, in order, and answered each batch that it found
-    pub serves : ServesBelow theory kind (theory.opening was) (place_count (theory.opening was).setup) was now t.side u.side
+    pub serves : ServesAll theory kind was now t.side u.side
     pub looks : (c : ℕ) → c < place_count (theory.opening was).setup
         → (looks_at (theory.trustee_view u.side) c).count ≡ (looks_at (theory.trustee_view t.side) c).count + 1
     -- its log, and all that it has done, only grow

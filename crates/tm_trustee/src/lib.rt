@@ -11,4 +11,4 @@ mod stage;
 mod trustee;
 
 pub use served::Served;
-pub use trustee::Trustee;
+pub use trustee::{Trustee, TrusteeRefused};

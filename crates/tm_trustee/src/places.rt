@@ -20,11 +20,7 @@ use tm_pair::{FitsBatches, PairTable, Since};
 use tm_state::TrusteeState;
 
 /// Answers a place, behind the resumes that the caller's proof picks.
-fn answer_behind<
-    S: FitsBatches,
-    P: PairTable<S>,
-    E: Since<S, S::Op, S::Reply, S::Task>,
->(
+fn answer_behind<S: FitsBatches, P: PairTable<S>, E: Since<S, S::Op, S::Reply, S::Task>>(
     table: &mut P,
     side: &mut P::TrusteeSide,
     place: u32,

@@ -8,8 +8,7 @@ publish-requires g c =
     let theory = g.P.PairTable.theory in
     let good = g.met.P.PairTable.laws.client_is_good c.args.table.now c.args.seat.now c.requires.mine in
     let is = bye.one_bye c.new-batch.result.requests.items c.push.new.self.requests.items c.push.result c.new-batch.ensures.requests
-    c.push.ensures.free.1 c.push.ensures.ok in
-    (
+    c.push.ensures.free.1 c.push.ensures.ok in (
       g.met.S.FitsBatches.fits_batch,
       (
         grind (arith, common_steps, g.met.S.FitsBatches.fits_held),

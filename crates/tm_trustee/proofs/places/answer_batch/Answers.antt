@@ -1,4 +1,4 @@
-use Rattle.std.proofs.Common.{◌++◌, []}
+use Rattle.std.proofs.Common.{◌++◌}
 use Rattle.tm_trustee.proofs.Resuming as resuming
 use Rattle.tm_trustee.proofs.places.answer_batch.Goals as goal
 

@@ -1,4 +1,4 @@
-use Rattle.std.proofs.Common.{◌<◌, ◌++◌, refl, sym, ◌∙◌, ap, subst, inl, inr}
+use Rattle.std.proofs.Common.{◌<◌, ◌++◌, refl, sym, subst, inl, inr}
 use Rattle.tm_model.specs.State.{place_count}
 use Rattle.tm_pair.proofs.Keeping.{clients_kept_on}
 use Rattle.tm_trustee.specs.Places.{HasReplied}
