@@ -17,7 +17,7 @@ use Rattle.tm_model.specs.Ran.{mark_of, ran}
 use Rattle.tm_model.specs.Entries.{entries_by}
 use Rattle.tm_model.specs.Holds.{has_bye, launches_in, unfinished}
 use Rattle.tm_model.specs.Orderly.{GrantsBelow}
-use Rattle.tm_core.proofs.Every.{all_at}
+use Rattle.tm_core.proofs.CallerLemmas.{all_at}
 use Rattle.tm_core.proofs.Marks.{ran-append}
 use Rattle.tm_core.proofs.Joins.{legal_logs_join, state-append}
 use Rattle.tm_core.proofs.Ordered.{opening_ordered, log_ordered}

@@ -10,9 +10,7 @@ use Rattle.tm_batch.specs.declared.message.Request.TheVariants.{Entrust, Apply, 
 use Rattle.tm_model.specs.State.{State}
 use Rattle.tm_model.specs.Holds.{Names, gave, came, has_bye, launches_in, ended_in}
 use Rattle.tm_model.specs.Orderly.{IsOrderly}
-use Rattle.tm_model.specs.Slots.{no_slot}
-use Rattle.tm_pair.specs.Views.{ClientView}
-use Rattle.tm_pair.specs.Stands.{client_of}
+use Rattle.tm_pair.specs.Views.{ClientView, new_client}
 use Rattle.tm_pair.specs.Calls.{Collects}
 use Rattle.tm_pair.specs.declared.table.Collected.{Collected}
 use Rattle.tm_pair.specs.declared.table.Collected.TheVariants.{Answers, Pending, Idle}
@@ -68,7 +66,7 @@ may_bye_then old new found h sent none ends =
     record { before = ap (λ l. has_bye l) same; launches = ap (λ l. launches_in l) same; ended = ended_sum old new found h none ends }
 
 -- so may one that sent nothing
-pub may_bye_first : {V O R T : Type 0} (c : ℕ) (view : ClientView V O R T) → view ≡ client_of c no_slot → MayBye view
+pub may_bye_first : {V O R T : Type 0} (c : ℕ) (view : ClientView V O R T) → view ≡ new_client c → MayBye view
 may_bye_first c view is = subst (λ v. MayBye v) (sym is) (record { before = refl; launches = refl; ended = refl })
 
 sum_held :

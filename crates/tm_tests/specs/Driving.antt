@@ -13,7 +13,8 @@ use Rattle.tm_batch.specs.declared.config.First.{First}
 use Rattle.tm_model.specs.State.{State}
 use Rattle.tm_model.specs.Opening.{opening_of}
 use Rattle.tm_model.specs.Holds.{has_bye, launches_in, ended_in}
-use Rattle.tm_pair.specs.Views.{ClientView, TrusteeView}
+use Rattle.tm_pair.specs.Views.{ClientView}
+use Rattle.tm_pair.specs.Theory.{Theory}
 use Rattle.tm_pair.specs.declared.table.Collected.{Collected}
 use Rattle.tm_pair.specs.declared.table.Collected.TheVariants.{Answers, Pending, Idle}
 use Rattle.tm_trustee.specs.Tables.{IsReady}
@@ -46,19 +47,19 @@ pub record MayBye {V O R T : Type 0} (view : ClientView V O R T) : Type 0 where
   pub launches : launches_in view.sent ≡ 0
   pub ended : ended_in view.got ≡ 0
 
-module _ {Table Client Owner : Type 0} (opening_at : Table → State Counter CounterOp CounterReply CounterTask)
-    (client_view : Client → ClientView Counter CounterOp CounterReply CounterTask) (HasClient : Table → Client → Type 0)
-    (HasTrustee : Table → Owner → Type 0) (trustee_view : Owner → TrusteeView Counter CounterOp CounterReply CounterTask) where
+module _ {Table Client Owner : Type 0} (theory : Theory Counter CounterOp CounterReply CounterTask Table Client Owner) where
   -- a side is of the table of trustee n
   abbrev pub IsSeated : List Table → ℕ → Client → Type 0
-  IsSeated tables n side = IsSomeAnd (slice_get tables n) (λ table. (opening_at table ≡ counting n) × HasClient table side)
+  IsSeated tables n side = IsSomeAnd (slice_get tables n) (λ table. (theory.opening table ≡ counting n) × theory.HasClient table side)
 
   -- trustee n is ready for a turn
-  abbrev pub IsDriven : List Table → ℕ → Trustee Counter Table CounterOp CounterReply CounterTask Client Owner → Type 0
-  IsDriven tables n t = IsReady opening_at client_view HasClient HasTrustee counter_kind trustee_view (counting n) tables t
+  pub record IsDriven (tables : List Table) (n : ℕ) (t : Trustee Counter Table CounterOp CounterReply CounterTask Client Owner) : Type 0 where
+    pub ready : IsReady theory counter_kind tables t
+    pub number : t.number ≡ n
+    pub clients : t.clients ≡ 1
 
   -- what a call at a side of place c leaves, and a turn of the trustee that has place c above: the sides of other places, and the trustees
   -- that have another place above
   pub record KeepsOthers (old new : List Table) (c : ℕ) : Type 0 where
-    pub sides : (n : ℕ) (other : Client) → (client_view other).place ≢ c → IsSeated old n other → IsSeated new n other
+    pub sides : (n : ℕ) (other : Client) → (theory.client_view other).place ≢ c → IsSeated old n other → IsSeated new n other
     pub trustees : (n : ℕ) (t : Trustee Counter Table CounterOp CounterReply CounterTask Client Owner) → 1 + n ≢ c → IsDriven old n t → IsDriven new n t

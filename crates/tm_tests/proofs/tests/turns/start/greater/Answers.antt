@@ -9,5 +9,5 @@ new-requires-3-clause-begins c =
 
 pub returns-in-Ok-clause-serving : goal.returns-in-Ok-clause-serving
 returns-in-Ok-clause-serving c =
-    c.in-Ok.ensures.serving (counting 1) one_counter
+    c.in-Ok.ensures.begun (counting 1) one_counter
     (begins_with 1 _ _ _ (lit< tt) c.in_ok-first.ensures c.new-2.ensures.items (ap (λ l. 2 + length l) c.new.ensures.items))

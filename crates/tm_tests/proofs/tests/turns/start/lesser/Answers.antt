@@ -9,5 +9,5 @@ new-requires-3-clause-begins c =
 
 pub returns-in-Ok-clause-serving : goal.returns-in-Ok-clause-serving
 returns-in-Ok-clause-serving c =
-    c.in-Ok.ensures.serving (counting 0) one_counter
+    c.in-Ok.ensures.begun (counting 0) one_counter
     (begins_with 0 _ _ _ (lit< tt) c.new.ensures.items c.new-2.ensures.items (ap (λ l. 1 + length l) c.in_ok-above.ensures.items))
