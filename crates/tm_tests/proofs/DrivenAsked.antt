@@ -15,7 +15,7 @@ use Rattle.tm_pair.specs.Calls.{Collects}
 use Rattle.tm_pair.specs.declared.table.Collected.{Collected}
 use Rattle.tm_pair.specs.declared.table.Collected.TheVariants.{Answers, Pending, Idle}
 use Rattle.tm_tests.specs.Sample.{the_name}
-use Rattle.tm_tests.specs.Driving.{counting, adds_and_releases, EndsNothing, MayBye}
+use Rattle.tm_tests.specs.Driving.{counting, adds_and_releases, entrusts_two, EndsNothing, MayBye}
 
 module _ {V O R T : Type 0} where
   launches_and_bye : (qs : List (Request V O R T)) → launches_in (qs ++ Bye ∷ []) ≡ launches_in qs
@@ -85,6 +85,24 @@ sum_held (b ∷ d ∷ f ∷ before) after q id e names = absurd cc
 pub sum_orderly : IsOrderly (counting 1) 0 [] [] adds_and_releases
 sum_orderly = record {
   held = sum_held;
+  grants = (tt, (tt, tt));
+  launches = omega arith;
+  bye = λ e. absurd cc;
+  last = λ e. absurd cc;
+  trustee = λ le. absurd (omega (arith, le));
+}
+
+two_held :
+    (before after : List (Request Counter CounterOp CounterReply CounterTask)) (q : Request Counter CounterOp CounterReply CounterTask) (id : ℕ)
+    → entrusts_two ≡ before ++ q ∷ after → ¬ Names q id
+two_held [] after q id e names = let at : q ≡ Entrust (record { value = 1 }) = cc in subst (λ r. Names r id) at names
+two_held (b ∷ []) after q id e names = let at : q ≡ Entrust (record { value = 2 }) = cc in subst (λ r. Names r id) at names
+two_held (b ∷ d ∷ []) after q id e names = absurd cc
+two_held (b ∷ d ∷ f ∷ before) after q id e names = absurd cc
+
+pub two_orderly : IsOrderly (counting 1) 0 [] [] entrusts_two
+two_orderly = record {
+  held = λ before after q id e names. absurd (two_held before after q id e names);
   grants = (tt, (tt, tt));
   launches = omega arith;
   bye = λ e. absurd cc;

@@ -7,7 +7,7 @@ use Rattle.tm_seq.specs.declared.counter.CounterOp.TheVariants.{Add}
 use Rattle.tm_seq.specs.declared.counter.CounterReply.{CounterReply}
 use Rattle.tm_seq.specs.declared.counter.CounterTask.{CounterTask}
 use Rattle.tm_batch.specs.declared.message.Request.{Request}
-use Rattle.tm_batch.specs.declared.message.Request.TheVariants.{Apply, Release}
+use Rattle.tm_batch.specs.declared.message.Request.TheVariants.{Entrust, Apply, Release}
 use Rattle.tm_batch.specs.declared.config.Config.{Config}
 use Rattle.tm_batch.specs.declared.config.First.{First}
 use Rattle.tm_model.specs.State.{State}
@@ -22,7 +22,7 @@ use Rattle.tm_tests.specs.Sample.{the_name}
 use Rattle.tm_trustee.specs.declared.trustee.Trustee.{Trustee}
 
 abbrev pub small : Config
-small = record { clients = 1; trustees = 2; objects = 4; trusts = 4; last_id = 9 }
+small = record { clients = 1; trustees = 2; objects = 4096; trusts = 4; last_id = 9 }
 
 abbrev pub one_counter : List (First Counter)
 one_counter = record { trustee = 1; value = record { value = 0 }; holders = 0 ∷ [] } ∷ []
@@ -34,6 +34,10 @@ counting n = opening_of n small one_counter
 -- 5 is added to it, and it is given up
 abbrev pub adds_and_releases : {V R T : Type 0} → List (Request V CounterOp R T)
 adds_and_releases = Apply the_name (Add 5) ∷ Release the_name ∷ []
+
+-- two counters are entrusted
+abbrev pub entrusts_two : List (Request Counter CounterOp CounterReply CounterTask)
+entrusts_two = Entrust (record { value = 1 }) ∷ Entrust (record { value = 2 }) ∷ []
 
 -- answers were found by which no launch ended
 abbrev pub EndsNothing : {V O R T : Type 0} → Collected V O R T → Type 0

@@ -6,6 +6,7 @@ ghost use Rattle.tm_tests.specs.Driving.{IsSeated, IsDriven};
 mod asking;
 mod gate;
 mod looking;
+mod names;
 mod start;
 mod turning;
 mod upward;
@@ -37,6 +38,7 @@ fn one_trustee<P: PairTable<Counter>, G: Gate>(
     requires lower { IsSeated P.theory tables.old 1 lower.old }
     requires lower_view { P.theory.client_view lower.old ≡ new_client 1 }
 {
+    assert_eq!(rt; trustee.moved(), 0);
     assert_eq!(rt; turn(trustee, tables, gate), Served::Quiet);
     assert!(rt; ask_sum(tables, client));
     assert_eq!(rt; turn(trustee, tables, gate), Served::Moved(1));
@@ -44,6 +46,10 @@ fn one_trustee<P: PairTable<Counter>, G: Gate>(
     assert!(rt; say_bye(tables, 1, client));
     assert!(rt; say_bye(tables, 1, lower));
     assert_eq!(rt; turn(trustee, tables, gate), Served::Ended);
+    assert_eq!(rt; trustee.moved(), 2);
+    assert_eq!(rt; turn(trustee, tables, gate), Served::Ended);
+    assert_eq!(rt; trustee.moved(), 0);
+    assert_eq!(rt; trustee.requests_run(), 4);
 }
 
 #[test]

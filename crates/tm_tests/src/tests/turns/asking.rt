@@ -2,7 +2,7 @@
 ghost use Rattle.std.specs.Prelude.{◌≡◌, ◌≢◌, ℕ, [], ◌∷◌, ◌<◌, IsTrue};
 ghost use Rattle.tm_batch.specs.declared.message.Request.TheVariants.{Bye};
 ghost use Rattle.tm_pair.specs.Views.{new_client};
-ghost use Rattle.tm_tests.specs.Driving.{adds_and_releases, MayBye, IsSeated, KeepsOthers};
+ghost use Rattle.tm_tests.specs.Driving.{adds_and_releases, entrusts_two, MayBye, IsSeated, KeepsOthers};
 
 use tm_batch::{Batch, Name, Request};
 use tm_pair::PairTable;
@@ -27,6 +27,28 @@ fn bye() -> Batch<Counter>
     let mut batch = Batch::new(0);
     let _ = batch.push(Request::Bye);
     batch
+}
+
+/// Two counters, of 1 and of 2.
+fn two() -> Batch<Counter>
+    ensures requests { result.requests.items ≡ entrusts_two }
+    ensures room { result.room ≡ 0 }
+{
+    let mut batch = Batch::new(0);
+    let _ = batch.push(Request::Entrust(Counter { value: 1 }));
+    let _ = batch.push(Request::Entrust(Counter { value: 2 }));
+    batch
+}
+
+/// Client 0, which sent nothing, entrusts two counters to the greater trustee. Whether it could.
+pub(super) fn entrust_two<P: PairTable<Counter>>(tables: &mut [P], side: &mut P::ClientSide) -> bool
+    requires mine { IsSeated P.theory tables.old 1 side.old }
+    requires first { P.theory.client_view side.old ≡ new_client 0 }
+    ensures free { IsTrue result }
+    ensures mine { IsSeated P.theory tables.new 1 side.new }
+    ensures others { KeepsOthers P.theory tables.old tables.new 0 }
+{
+    tables[1].publish(side, two()).is_ok()
 }
 
 /// Client 0, which sent nothing, asks the greater trustee for a sum, and gives the counter up. Whether it could.

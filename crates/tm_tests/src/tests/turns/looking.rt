@@ -39,6 +39,29 @@ fn collect<P: PairTable<Counter>>(tables: &mut [P], side: &mut P::ClientSide) ->
     tables[1].collect(side)
 }
 
+/// Whether two objects were entrusted, with ids that follow the counter's, and with names of two places.
+fn are_two_names(came: &AnswerBatch<Counter>) -> bool {
+    match came.answers.as_slice() {
+        [Answer::Entrusted(one), Answer::Entrusted(other)] => {
+            one.id == 2 && other.id == 3 && one.place != other.place
+        }
+        _ => false,
+    }
+}
+
+/// A client collects at the greater trustee. Whether two names came.
+pub(super) fn collect_names<P: PairTable<Counter>>(
+    tables: &mut [P],
+    side: &mut P::ClientSide,
+) -> bool
+    requires { IsSeated P.theory tables.old 1 side.old }
+{
+    match collect(tables, side) {
+        Collected::Answers(came) => are_two_names(&came),
+        _ => false,
+    }
+}
+
 /// Client 0, to which nothing came, collects at the greater trustee. Whether the sum came.
 pub(super) fn collect_sum<P: PairTable<Counter>>(tables: &mut [P], side: &mut P::ClientSide) -> bool
     requires mine { IsSeated P.theory tables.old 1 side.old }

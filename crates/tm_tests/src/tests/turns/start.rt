@@ -16,7 +16,7 @@ use tm_trustee::Trustee;
 const SMALL: Config = Config {
     clients: 1,
     trustees: 2,
-    objects: 4,
+    objects: 4_096,
     trusts: 4,
     last_id: 9,
 };

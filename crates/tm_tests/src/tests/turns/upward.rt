@@ -36,7 +36,11 @@ fn two_trustees<P: PairTable<Counter>, G: Gate>(
     assert_eq!(rt; turn(lesser, tables, gate), Served::Quiet);
     assert!(rt; say_bye(tables, 1, at_high));
     assert_eq!(rt; turn(greater, tables, gate), Served::Ended);
+    assert_eq!(rt; greater.moved(), 2);
     assert_eq!(rt; turn(lesser, tables, gate), Served::Ended);
+    assert_eq!(rt; lesser.moved(), 1);
+    assert_eq!(rt; lesser.requests_run(), 1);
+    assert_eq!(rt; greater.requests_run(), 2);
 }
 
 #[test]

@@ -36,3 +36,16 @@ turn-requires-3 g c =
           (c.collect_sum.ensures.others.trustees 1 _ (λ e. let no : 2 ≡ 0 = e ∙ c.ask_sum.ensures.place in absurd cc)
           (c.turn-2.ensures.ready 1 (c.ask_sum.ensures.others.trustees 1 _ (λ e. absurd cc) (c.turn.ensures.ready 1 c.requires.ready))))),
     )
+
+pub turn-requires-4 : goal.turn-requires-4
+turn-requires-4 g c =
+    let P = g.P.PairTable in
+    let at : (P.theory.client_view c.args.lower.now).place ≡ 1 = ap (λ view. view.place) c.requires.lower_view in
+    let client : (P.theory.client_view c.collect_sum.new.side).place ≡ 0 = c.collect_sum.ensures.place ∙ c.ask_sum.ensures.place in (
+      1,
+      c.turn-3.ensures.ready 1
+          (c.say_bye-2.ensures.others.trustees 1 _ (λ e. let no : 2 ≡ 1 = e ∙ at in absurd cc)
+          (c.say_bye.ensures.others.trustees 1 _ (λ e. let no : 2 ≡ 0 = e ∙ client in absurd cc)
+          (c.collect_sum.ensures.others.trustees 1 _ (λ e. let no : 2 ≡ 0 = e ∙ c.ask_sum.ensures.place in absurd cc)
+          (c.turn-2.ensures.ready 1 (c.ask_sum.ensures.others.trustees 1 _ (λ e. absurd cc) (c.turn.ensures.ready 1 c.requires.ready)))))),
+    )

@@ -2,7 +2,7 @@ use Rattle.tm_tests.proofs.DrivenTurned.{turn_driven, turn_keeps, turn_keeps_oth
 use Rattle.tm_tests.proofs.tests.turns.turning.turn.Goals as goal
 
 pub serve_turn-requires : goal.serve_turn-requires
-serve_turn-requires g c = let (n, driven) = c.requires in driven.ready
+serve_turn-requires g c = let (n, driven) = c.requires in record { ready = driven.ready }
 
 pub returns-clause-ready : goal.returns-clause-ready
 returns-clause-ready g c = λ n driven.
