@@ -17,8 +17,8 @@ use Rattle.tm_model.specs.Entries.{entries_by, added}
 use Rattle.tm_core.proofs.AllAnswers.{batches_have_all_answers}
 use Rattle.tm_core.proofs.CallerLemmas.{all_at}
 use Rattle.tm_core.proofs.Joins.{batches_join, own_batch, state-append}
-use Rattle.tm_state.specs.Holding.{Holding}
-use Rattle.tm_state.specs.Standing.{Stands}
+use Rattle.tm_state.specs.StateView.{StateView}
+use Rattle.tm_state.specs.Represents.{Represents}
 use Rattle.tm_state.specs.Asking.{HasRunAll, MayLeave, HasLeft, IsAnswerable, HasAnswered}
 
 module _ {V O R T : Type 0} where
@@ -59,13 +59,13 @@ module _ {V O R T : Type 0} where
         ∙ ap (λ t. leaving c room (length log + length b + 1) answers t ∷ []) (sym (state-append kind opening log es)))
 
     pub may_leave :
-        (c : ℕ) (b : List (Request V O R T)) (answers : List (Answer V O R T)) (old mid : Holding V) → IsAnswerable kind c b old
+        (c : ℕ) (b : List (Request V O R T)) (answers : List (Answer V O R T)) (old mid : StateView V) → IsAnswerable kind c b old
         → HasRunAll kind c b answers old mid → MayLeave kind c mid
     may_leave c b answers old mid (opening, log, may) run =
         (opening, log ++ entries_by c (length (ran c log)) b answers, (run opening log may).1, may.in_range)
 
     pub has_answered :
-        (c : ℕ) (b : List (Request V O R T)) (room given : ℕ) (answers : List (Answer V O R T)) (a : AnswerBatch V O R T) (old mid new : Holding V)
+        (c : ℕ) (b : List (Request V O R T)) (room given : ℕ) (answers : List (Answer V O R T)) (a : AnswerBatch V O R T) (old mid new : StateView V)
         → given ≡ room → HasRunAll kind c b answers old mid → HasLeft kind c given a mid new → a.answers.items ≡ answers → a.completions.items ≡ []
         → HasAnswered kind c b room a old new
     has_answered c b room given answers a old mid new is_room run left same completions opening log may =
@@ -79,7 +79,7 @@ module _ {V O R T : Type 0} where
         let joined = length-append log es in
         let at : min (length (log ++ es) + 1) (2 ^ 64 - 1) ≡ min (length log + length b + 1) (2 ^ 64 - 1) = ap (λ n. min n (2 ^ 64 - 1)) (omega (arith, joined, count)) in
         let all : log ++ added log [] c b room answers ≡ (log ++ es) ++ Sent c room ∷ [] = sym (append_assoc log es (Sent c room ∷ [])) in
-        let grown : Stands kind opening (log ++ added log [] c b room answers) new = subst (λ l. Stands kind opening l new) (sym all) after in
+        let grown : Represents kind opening (log ++ added log [] c b room answers) new = subst (λ l. Represents kind opening l new) (sym all) after in
         let is = leaving_is c room (length log + length b + 1) answers s a (front ∙ at) same gifts completions ready in
         let leaves = one_leaves opening log c b room answers many none ∙ ap (λ x. batches kind opening c log ++ x ∷ []) is in (
           record {
@@ -88,5 +88,5 @@ module _ {V O R T : Type 0} where
             is_legal = subst (λ l. IsLegal kind opening (log ++ added log [] c b room l)) (sym same) grown.is_legal;
             last = subst (λ l. EndsIn (batches kind opening c (log ++ added log [] c b room l)) a) (sym same) (batches kind opening c log, leaves);
           },
-          subst (λ l. Stands kind opening (log ++ added log [] c b room l) new) (sym same) grown,
+          subst (λ l. Represents kind opening (log ++ added log [] c b room l) new) (sym same) grown,
         )

@@ -8,13 +8,13 @@ use Rattle.tm_model.specs.Serve.{counted, sent_off}
 use Rattle.tm_objects.specs.Standing.{stock_of}
 use Rattle.tm_objects.specs.Stock.{Stock}
 use Rattle.tm_core.proofs.CallerLemmas.{all_at}
-use Rattle.tm_state.specs.Holding.{Holding}
-use Rattle.tm_state.specs.Standing.{Keeps}
+use Rattle.tm_state.specs.StateView.{StateView}
+use Rattle.tm_state.specs.Represents.{Keeps}
 use Rattle.tm_state.proofs.RowsKeep.{keeps_place}
 
 module _ {V O R T : Type 0} where
   -- the counts of requests and entries are no part of it
-  recounted : (s : State V O R T) (h : Holding V) (run entries : ℕ) → Keeps s h → Keeps s (record h { run = run; entries = entries })
+  recounted : (s : State V O R T) (h : StateView V) (run entries : ℕ) → Keeps s h → Keeps s (record h { run = run; entries = entries })
   recounted s h run entries k = record {
     config = k.config;
     number = k.number;
@@ -30,7 +30,7 @@ module _ {V O R T : Type 0} where
   }
 
   pub keeps_counted :
-      (c : ℕ) (s : State V O R T) (h : Holding V) (run entries : ℕ) → Keeps s h → Keeps (counted c s) (record h { run = run; entries = entries })
+      (c : ℕ) (s : State V O R T) (h : StateView V) (run entries : ℕ) → Keeps s h → Keeps (counted c s) (record h { run = run; entries = entries })
   keeps_counted c s h run entries k =
       let p : Place V O R T = record (place_of s c) { served = (place_of s c).served + 1 } in
       let gifts = map-set_same (λ (q : Place V O R T). q.gifts) s.places c p no_place refl in
@@ -40,7 +40,7 @@ module _ {V O R T : Type 0} where
       (k.stock ∙ ap (λ (g : List (List Name)). record (stock_of s) { gifts = g }) (sym gifts)) (k.closed ∙ sym closed))
 
   pub keeps_sent :
-      (c room : ℕ) (s : State V O R T) (h : Holding V) (stock : Stock V) (entries : ℕ) → Keeps s h → stock ≡ stock_of (sent_off c room s)
+      (c room : ℕ) (s : State V O R T) (h : StateView V) (stock : Stock V) (entries : ℕ) → Keeps s h → stock ≡ stock_of (sent_off c room s)
       → Keeps (sent_off c room s) (record h { stock = stock; entries = entries })
   keeps_sent c room s h stock entries k is =
       let p : Place V O R T = record (place_of s c) { gifts = drop room (place_of s c).gifts; ready = drop 16 (place_of s c).ready } in

@@ -15,8 +15,8 @@ use Rattle.tm_objects.specs.Standing.{stock_of}
 use Rattle.tm_objects.proofs.Alike as alike
 use Rattle.tm_core.proofs.Joins.{legal_logs_join, state-append}
 use Rattle.tm_core.proofs.Sound.{states_are_sound}
-use Rattle.tm_state.specs.Holding.{Holding}
-use Rattle.tm_state.specs.Standing.{Keeps, requests_in}
+use Rattle.tm_state.specs.StateView.{StateView}
+use Rattle.tm_state.specs.Represents.{Keeps, requests_in}
 use Rattle.tm_state.specs.Asking.{MayLeave, HasLeft}
 use Rattle.tm_state.proofs.BatchKeeps.{keeps_sent}
 use Rattle.tm_state.proofs.BatchRuns.{requests_in-append}
@@ -59,7 +59,7 @@ module _ {V : Type 0} (s : Stock V) (c n : ℕ) where
 
 module _ {V O R T : Type 0} (kind : Kind V O R T) where
   -- there are gifts for each place of the table
-  pub has_place : (c : ℕ) (h : Holding V) → MayLeave kind c h → c < length h.stock.gifts
+  pub has_place : (c : ℕ) (h : StateView V) → MayLeave kind c h → c < length h.stock.gifts
   has_place c h (opening, log, stands, lt) =
       let s = state_after kind opening log in
       let sound = states_are_sound kind opening log stands.opens stands.is_legal in
@@ -68,7 +68,7 @@ module _ {V O R T : Type 0} (kind : Kind V O R T) where
       omega (arith, gifts, places, sound.places, lt)
 
   pub has_left :
-      (c room : ℕ) (a : AnswerBatch V O R T) (old was : Holding V) (stock : Stock V) (entries : ℕ) → was ≡ old → room ≤ 16
+      (c room : ℕ) (a : AnswerBatch V O R T) (old was : StateView V) (stock : Stock V) (entries : ℕ) → was ≡ old → room ≤ 16
       → stock ≡ gifts_taken c room was.stock → a.gifts.items ≡ take room (gifts_of was.stock.gifts c)
       → entries ≡ min (was.entries + 1) (2 ^ 64 - 1) → a.front ≡ entries
       → HasLeft kind c room a old (record was { stock = stock; entries = entries })
@@ -83,8 +83,8 @@ module _ {V O R T : Type 0} (kind : Kind V O R T) where
       ap (λ (x : Stock V). gifts_of x.gifts c) keeps.stock ∙ get_or-map (λ (p : Place V O R T). p.gifts) s.places c no_place in
       let none : requests_in (log ++ Sent c room ∷ []) ≡ requests_in log + 0 = requests_in-append log (Sent c room ∷ []) in
       let joined : length (log ++ Sent c room ∷ []) ≡ length log + 1 = length-append log (Sent c room ∷ []) in
-      let run_was = ap (λ (h : Holding V). h.run) same in
-      let entries_was = ap (λ (h : Holding V). h.entries) same in
+      let run_was = ap (λ (h : StateView V). h.run) same in
+      let entries_was = ap (λ (h : StateView V). h.entries) same in
       let was_run = stands.run in
       let was_entries = stands.entries in (
         gifts ∙ ap (take room) at,

@@ -9,7 +9,7 @@ use Rattle.tm_batch.specs.declared.message.Request.TheVariants.{Entrust, Apply, 
 use Rattle.tm_batch.specs.declared.message.Answer.{Answer}
 use Rattle.tm_model.specs.declared.entry.Entry.{Entry}
 use Rattle.tm_model.specs.declared.entry.Entry.TheVariants.{By}
-use Rattle.tm_model.specs.State.{State, place_of, place_count}
+use Rattle.tm_model.specs.State.{State, no_place, place_of, place_count}
 use Rattle.tm_model.specs.Serve.{state_after}
 use Rattle.tm_model.specs.Legal.{IsLegal}
 use Rattle.tm_model.specs.Laws.{IsOpening}
@@ -17,18 +17,19 @@ use Rattle.tm_model.specs.Ran.{mark_of, ran}
 use Rattle.tm_model.specs.Entries.{entries_by}
 use Rattle.tm_model.specs.Holds.{has_bye, launches_in, unfinished}
 use Rattle.tm_model.specs.Orderly.{GrantsBelow}
+use Rattle.tm_core.proofs.CallerLemmas.{all_at}
 use Rattle.tm_core.proofs.Marks.{ran-append}
 use Rattle.tm_core.proofs.Joins.{legal_logs_join, state-append}
 use Rattle.tm_core.proofs.Ordered.{opening_ordered, log_ordered}
 use Rattle.tm_core.proofs.LaunchLog.{log_launches}
 use Rattle.tm_core.proofs.Sound.{states_are_sound}
 use Rattle.tm_core.proofs.Tallies.{launches_in-append, bye_more}
-use Rattle.tm_state.specs.Holding.{Holding}
-use Rattle.tm_state.specs.Standing.{Stands}
+use Rattle.tm_state.specs.StateView.{StateView}
+use Rattle.tm_state.specs.Represents.{Represents}
 use Rattle.tm_state.specs.Asking.{MayRun, IsRunnable, HasRun, MayRunBatch, IsAnswerable, HasRunAll}
 
 module _ {X : Type 0} where
-  -- the item at a position of two lists that are the same from there on, where `item` stands for it
+  -- the item at a position of two lists that are the same from there on, where `item` represents it
   pub same_item : (xs ys : List X) (i : ℕ) (item x : X) → drop i xs ≡ drop i ys → item ≡ get_or xs i item → x ≡ get_or xs i item → get_or ys i x ≡ x
   same_item xs ys i item x e is here =
       let at : (l : List X) → get_or (drop i l) 0 item ≡ get_or l i item = λ l. get_or-drop i l 0 item ∙ ap (λ n. get_or l n item) (omega arith) in
@@ -92,17 +93,17 @@ module _ {V O R T : Type 0} where
         let own = ap launches_in (ran_entries c k b answers many) in
         omega (arith, all, own)
 
-    -- whatever log `old` stands for, `h` stands for it and the entries of the first i requests of the batch b
-    abbrev pub HasRunFront : ℕ → List (Request V O R T) → ℕ → List (Answer V O R T) → Holding V → Holding V → Type 0
+    -- whatever log `old` represents, `h` represents it and the entries of the first i requests of the batch b
+    abbrev pub HasRunFront : ℕ → List (Request V O R T) → ℕ → List (Answer V O R T) → StateView V → StateView V → Type 0
     HasRunFront c b i answers old h =
         (opening : State V O R T) (log : List (Entry V O R T)) → MayRunBatch kind opening log c b old
-        → Stands kind opening (log ++ entries_by c (length (ran c log)) (take i b) answers) h
+        → Represents kind opening (log ++ entries_by c (length (ran c log)) (take i b) answers) h
 
-    pub none_run : (c : ℕ) (b : List (Request V O R T)) (answers : List (Answer V O R T)) (old : Holding V) → HasRunFront c b 0 answers old old
-    none_run c b answers old opening log may = subst (λ l. Stands kind opening l old) (sym (append-nil log)) may.stands
+    pub none_run : (c : ℕ) (b : List (Request V O R T)) (answers : List (Answer V O R T)) (old : StateView V) → HasRunFront c b 0 answers old old
+    none_run c b answers old opening log may = subst (λ l. Represents kind opening l old) (sym (append-nil log)) may.represents
 
     -- the next request may be asked
-    module _ (c : ℕ) (b : List (Request V O R T)) (i : ℕ) (answers : List (Answer V O R T)) (q : Request V O R T) (old mid : Holding V)
+    module _ (c : ℕ) (b : List (Request V O R T)) (i : ℕ) (answers : List (Answer V O R T)) (q : Request V O R T) (old mid : StateView V)
         (many : length answers ≡ i) (lt : i < length b) (is : get_or b i q ≡ q) (ran_front : HasRunFront c b i answers old mid) where
       as_many : length answers ≡ length (take i b)
       as_many = let all = length-take-le i b (omega arith) in omega (arith, many, all)
@@ -115,33 +116,35 @@ module _ {V O R T : Type 0} where
           let es = entries_by c k (take i b) answers in
           let s = state_after kind opening log in
           let t = state_after kind opening (log ++ es) in
-          let stands = ran_front opening log may in
-          let told = may.told in
-          let sound = states_are_sound kind opening (log ++ es) stands.opens stands.is_legal in
+          let represents = ran_front opening log may in
+          let promised = may.promised in
+          let sound = states_are_sound kind opening (log ++ es) represents.opens represents.is_legal in
           let split = parts b i q lt is in
-          let behind = ((legal_logs_join kind opening log es).0 stands.is_legal).1 in
+          let behind = ((legal_logs_join kind opening log es).0 represents.is_legal).1 in
           let lands : t ≡ state_after kind s es = state-append kind opening log es in
-          let grown = launches_run opening log c k (take i b) answers may.stands.opens may.stands.is_legal may.in_range as_many behind in
+          let grown = launches_run opening log c k (take i b) answers may.represents.opens may.represents.is_legal may.in_range as_many behind in
           let live : unfinished c t.live ≡ unfinished c (state_after kind s es).live = ap (λ (x : State V O R T). unfinished c x.live) lands in
           let in_all : launches_in b ≡ launches_in (take i b) + launches_in (q ∷ drop (i + 1) b) =
           ap launches_in split ∙ launches_in-append (take i b) (q ∷ drop (i + 1) b) in
           let in_rest : launches_in (q ∷ drop (i + 1) b) ≡ launches_in (q ∷ []) + launches_in (drop (i + 1) b) =
           launches_in-append (q ∷ []) (drop (i + 1) b) in
-          let most = told.launches in
+          let most = promised.launches in
+          let none : (place_of t c).ready ≡ [] = all_at (λ p. p.ready ≡ []) t.places c no_place refl represents.keeps.ready in
+          let none_ready : length (place_of t c).ready ≡ 0 = ap length none in
           record {
-            stands = stands;
+            represents = represents;
             may = record {
               in_range = subst (λ z. c < place_count z) (sym sound.setup) may.in_range;
-              held = λ id names. told.held [] answers (take i b) (drop (i + 1) b) q id split names tt as_many stands.is_legal;
+              held = λ id names. promised.held [] answers (take i b) (drop (i + 1) b) q id split names tt as_many represents.is_legal;
               grants =
                   subst (λ z. GrantsBelow z.config.clients q) (sym sound.setup)
                   (all_within (GrantsBelow opening.setup.config.clients) (take i b) (drop (i + 1) b) q
-                  (subst (λ l. AllByRecursion (GrantsBelow opening.setup.config.clients) l) split told.grants));
-              launches = omega (arith, grown, live, in_all, in_rest, most);
+                  (subst (λ l. AllByRecursion (GrantsBelow opening.setup.config.clients) l) split promised.grants));
+              launches = omega (arith, grown, live, in_all, in_rest, most, none_ready);
               bye = λ bye.
                   let whole : has_bye b ≡ true =
                   subst (λ l. has_bye l ≡ true) (sym split) (bye_behind (take i b) (q ∷ drop (i + 1) b) (bye_more (q ∷ []) (drop (i + 1) b) bye)) in
-                  let (alone, ended, ready) = told.bye whole in
+                  let (alone, ended, ready) = promised.bye whole in
                   let none : launches_in b ≡ 0 = ap launches_in alone in
                   omega (arith, grown, live, in_all, ended, ready, none);
             };
@@ -151,12 +154,12 @@ module _ {V O R T : Type 0} where
       next_runnable (opening, log, may) = (opening, log ++ entries_by c (length (ran c log)) (take i b) answers, next_asked opening log may)
 
       pub next_run :
-          (a : Answer V O R T) (more : List (Answer V O R T)) (new : Holding V) → more ≡ answers ++ a ∷ [] → HasRun kind c q a mid new
+          (a : Answer V O R T) (more : List (Answer V O R T)) (new : StateView V) → more ≡ answers ++ a ∷ [] → HasRun kind c q a mid new
           → HasRunFront c b (i + 1) more old new
       next_run a more new longer run opening log may =
           let k = length (ran c log) in
           let es = entries_by c k (take i b) answers in
-          let stands = run opening (log ++ es) (next_asked opening log may) in
+          let represents = run opening (log ++ es) (next_asked opening log may) in
           let joined = ap length (ran-append mark_of c log es) ∙ length-append (ran c log) (ran c es) in
           let own = ap length (ran_entries c k (take i b) answers as_many) in
           let count : k + length (take i b) ≡ length (ran c (log ++ es)) = omega (arith, joined, own) in
@@ -165,13 +168,13 @@ module _ {V O R T : Type 0} where
           ∙ ap (λ l. log ++ entries_by c k l (answers ++ a ∷ [])) (take_more b i q lt ∙ ap (λ z. take i b ++ z ∷ []) is)
           ∙ ap (λ l. log ++ l) (entries-append c k (take i b) answers q a as_many)
           ∙ sym (append_assoc log es (By c (k + length (take i b)) q a ∷ [])) ∙ ap (λ n. (log ++ es) ++ By c n q a ∷ []) count in
-          subst (λ l. Stands kind opening l new) (sym all) stands
+          subst (λ l. Represents kind opening l new) (sym all) represents
 
     pub all_run :
-        (c : ℕ) (b : List (Request V O R T)) (i : ℕ) (answers : List (Answer V O R T)) (old new : Holding V) → i ≡ length b → length answers ≡ i
+        (c : ℕ) (b : List (Request V O R T)) (i : ℕ) (answers : List (Answer V O R T)) (old new : StateView V) → i ≡ length b → length answers ≡ i
         → HasRunFront c b i answers old new → HasRunAll kind c b answers old new
     all_run c b i answers old new all many front opening log may =
         let whole : take i b ≡ b = ap (λ n. take n b) all ∙ take-length b in (
           many ∙ all,
-          subst (λ l. Stands kind opening (log ++ entries_by c (length (ran c log)) l answers) new) whole (front opening log may),
+          subst (λ l. Represents kind opening (log ++ entries_by c (length (ran c log)) l answers) new) whole (front opening log may),
         )

@@ -15,8 +15,8 @@ use Rattle.tm_core.proofs.CallerLemmas.{is_same, all_both, all_filter, all_repli
 use Rattle.tm_core.proofs.First.{opening_unfinished}
 use Rattle.tm_objects.specs.Live.{Live}
 use Rattle.tm_objects.specs.Standing.{live_of, stock_of}
-use Rattle.tm_state.specs.Holding.{Holding}
-use Rattle.tm_state.specs.Standing.{Stands}
+use Rattle.tm_state.specs.StateView.{StateView}
+use Rattle.tm_state.specs.Represents.{Represents}
 use Rattle.tm_state.specs.Opened.{MayOpen}
 use Rattle.tm_state.specs.PlacedObjects.{MayPlace, placed, begun_with}
 
@@ -53,7 +53,7 @@ module _ {V : Type 0} (T : Type 0) where
       }
 
   pub may_place :
-      (number : ℕ) (config : Config) (whole first front rest : List (First V)) (f : First V) (h : Holding V) → MayOpen number config whole first
+      (number : ℕ) (config : Config) (whole first front rest : List (First V)) (f : First V) (h : StateView V) → MayOpen number config whole first
       → front ++ f ∷ rest ≡ first → h ≡ begun_with T number config front → MayPlace f h.stock
   may_place number config whole first front rest f h may is e =
       let n = config.clients + number in
@@ -87,7 +87,7 @@ module _ {V : Type 0} (T : Type 0) where
 
   -- one more object of the build is placed
   pub begun_more :
-      (number : ℕ) (config : Config) (front : List (First V)) (f : First V) (h k : Holding V) → h ≡ begun_with T number config front
+      (number : ℕ) (config : Config) (front : List (First V)) (f : First V) (h k : StateView V) → h ≡ begun_with T number config front
       → k ≡ record h { stock = placed T f h.stock } → k ≡ begun_with T number config (front ++ f ∷ [])
   begun_more number config front f h k e is =
       let n = config.clients + number in
@@ -95,7 +95,7 @@ module _ {V : Type 0} (T : Type 0) where
       let S = λ (next : ℕ) (live : List (Live V)). record old { stock = record old.stock { next_id = next; live = live } } in
       let wide : length (replicate {A = List Name} n []) ≡ n = length-replicate {A = List Name} n [] in
       let count : length front + 1 + 1 ≡ length (front ++ f ∷ []) + 1 = let long = length-append front (f ∷ []) in omega (arith, long) in
-      is ∙ ap (λ (x : Holding V). record x { stock = placed T f x.stock }) e
+      is ∙ ap (λ (x : StateView V). record x { stock = placed T f x.stock }) e
       ∙ ap (λ w. S (length front + 1 + 1) (old.stock.live ++ map live_of (opened {T = T} w (length front + 1) (f ∷ [])))) wide
       ∙ ap (S (length front + 1 + 1)) (sym (live_more n 1 (length front + 1) front f (omega arith)))
       ∙ ap (λ m. S m (map live_of (opened {T = T} n 1 (front ++ f ∷ [])))) count
@@ -103,17 +103,17 @@ module _ {V : Type 0} (T : Type 0) where
 module _ {V : Type 0} (T : Type 0) where
   -- no object of the build is left
   pub all_placed :
-      (front rest first : List (First V)) (number : ℕ) (config : Config) (h : Holding V) → length rest ≡ 0 → front ++ rest ≡ first
+      (front rest first : List (First V)) (number : ℕ) (config : Config) (h : StateView V) → length rest ≡ 0 → front ++ rest ≡ first
       → h ≡ begun_with T number config front → h ≡ begun_with T number config first
   all_placed front [] first number config h none is e = e ∙ ap (begun_with T number config) (sym (append-nil front) ∙ is)
   all_placed front (f ∷ rest) first number config h none is e = absurd (omega arith)
 
 module _ {V O R T : Type 0} (kind : Kind V O R T) where
   -- once all objects of the build are placed, a trustee has what its empty log leaves
-  pub begun_stands :
-      (number : ℕ) (config : Config) (whole first : List (First V)) (h : Holding V) → MayOpen number config whole first
-      → h ≡ begun_with T number config first → Stands kind (opening_of number config whole) [] h
-  begun_stands number config whole first h may e =
+  pub begun_represents :
+      (number : ℕ) (config : Config) (whole first : List (First V)) (h : StateView V) → MayOpen number config whole first
+      → h ≡ begun_with T number config first → Represents kind (opening_of number config whole) [] h
+  begun_represents number config whole first h may e =
       let n = config.clients + number in
       let s : State V O R T = opening_of number config whole in
       let opens : IsOpening s = (number, config, whole, may.buildable, may.in_range, refl) in

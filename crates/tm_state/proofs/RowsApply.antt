@@ -13,7 +13,7 @@ use Rattle.tm_objects.specs.Standing.{stock_of}
 use Rattle.tm_objects.proofs.Alike.{changes_alike}
 use Rattle.tm_core.proofs.CallerLemmas.{all_weaker}
 use Rattle.tm_core.proofs.Unfinished.{unfinished_change}
-use Rattle.tm_state.specs.Holding.{Holding}
+use Rattle.tm_state.specs.StateView.{StateView}
 use Rattle.tm_state.specs.Asking.{IsAsked}
 use Rattle.tm_state.proofs.RowsOrder.{alone, change_same, sound_ordered}
 use Rattle.tm_state.proofs.RowsKeep.{Row, keeps_live}
@@ -21,7 +21,7 @@ use Rattle.tm_state.proofs.RowsWorks.{stay_change}
 use Rattle.tm_state.proofs.RowsLive.{HeldAt, held_at, of_object, from_live, is_held}
 
 module _ {V O R T : Type 0} (kind : Kind V O R T) (laws : KindLaws kind) where
-  module _ (opening s : State V O R T) (c : ℕ) (h : Holding V) (n : Name) (op : O) (asked : IsAsked opening s c (Apply n op) h) where
+  module _ (opening s : State V O R T) (c : ℕ) (h : StateView V) (n : Name) (op : O) (asked : IsAsked opening s c (Apply n op) h) where
     at : HeldAt s h c n.id
     at = held_at n.id refl asked
 

@@ -20,12 +20,12 @@ use Rattle.tm_objects.specs.Stock.{Stock, entrusted}
 use Rattle.tm_objects.specs.Standing.{live_of}
 use Rattle.tm_objects.proofs.Alike.{entrusts_alike}
 use Rattle.tm_core.proofs.Unfinished.{unfinished-append}
-use Rattle.tm_state.specs.Holding.{Holding}
-use Rattle.tm_state.specs.Standing.{Keeps}
+use Rattle.tm_state.specs.StateView.{StateView}
+use Rattle.tm_state.specs.Represents.{Keeps}
 use Rattle.tm_state.proofs.RowsKeep.{Row, keeps_live}
 use Rattle.tm_state.proofs.RowsWorks.{stay_append}
 
-module _ {V O R T : Type 0} (kind : Kind V O R T) (s : State V O R T) (c : ℕ) (v : V) (h : Holding V) (k : Keeps s h) (stock : Stock V)
+module _ {V O R T : Type 0} (kind : Kind V O R T) (s : State V O R T) (c : ℕ) (v : V) (h : StateView V) (k : Keeps s h) (stock : Stock V)
     (r : Result Name (Refusal × V))
     (full : h.stock.most ≤ length h.stock.live → (r ≡ Err (ObjectsFull, v)) × (stock ≡ h.stock))
     (spent : length h.stock.live < h.stock.most → h.stock.last_id < h.stock.next_id → (r ≡ Err (SerialsSpent, v)) × (stock ≡ h.stock))

@@ -19,15 +19,15 @@ use Rattle.tm_objects.specs.Stock.{Stock, released, reclaimed, closed}
 use Rattle.tm_objects.proofs.Alike.{releases_alike, reclaims_alike, closes_alike}
 use Rattle.tm_core.proofs.CallerLemmas.{item_within, all_weaker}
 use Rattle.tm_core.proofs.Unfinished.{no_works, unfinished_change, unfinished_map, unfinished_kept, unfinished_without}
-use Rattle.tm_state.specs.Holding.{Holding}
-use Rattle.tm_state.specs.Standing.{Keeps}
+use Rattle.tm_state.specs.StateView.{StateView}
+use Rattle.tm_state.specs.Represents.{Keeps}
 use Rattle.tm_state.specs.Asking.{IsAsked}
 use Rattle.tm_state.proofs.RowsOrder.{alone, sound_ordered}
 use Rattle.tm_state.proofs.RowsKeep.{Row, keeps_live, keeps_place}
 use Rattle.tm_state.proofs.RowsWorks.{WorksStay, stay_change, stay_map, stay_kept, stay_without}
 use Rattle.tm_state.proofs.RowsLive.{HeldAt, held_at, of_object, from_live, is_held}
 
-module _ {V O R T : Type 0} (kind : Kind V O R T) (opening s : State V O R T) (c : ℕ) (h : Holding V) (stock : Stock V) where
+module _ {V O R T : Type 0} (kind : Kind V O R T) (opening s : State V O R T) (c : ℕ) (h : StateView V) (stock : Stock V) where
   -- a hold of the place goes
   pub release_row : (n : Name) → IsAsked opening s c (Release n) h → stock ≡ released c n.id h.stock → Row kind s c (Release n) Released (record h { stock = stock })
   release_row n asked is =

@@ -16,14 +16,14 @@ use Rattle.tm_objects.specs.Live.{count_in, object_of}
 use Rattle.tm_objects.specs.Stock.{Stock, gifts_of, granted}
 use Rattle.tm_objects.proofs.Alike.{grants_alike}
 use Rattle.tm_core.proofs.Unfinished.{unfinished_change}
-use Rattle.tm_state.specs.Holding.{Holding}
-use Rattle.tm_state.specs.Standing.{Keeps}
+use Rattle.tm_state.specs.StateView.{StateView}
+use Rattle.tm_state.specs.Represents.{Keeps}
 use Rattle.tm_state.specs.Asking.{IsAsked}
 use Rattle.tm_state.proofs.RowsKeep.{Row, keeps_place}
 use Rattle.tm_state.proofs.RowsWorks.{stay_change}
 use Rattle.tm_state.proofs.RowsLive.{HeldAt, held_at, of_object, is_held}
 
-module _ {V O R T : Type 0} (kind : Kind V O R T) (opening s : State V O R T) (c : ℕ) (h : Holding V) (n : Name) (to : ℕ)
+module _ {V O R T : Type 0} (kind : Kind V O R T) (opening s : State V O R T) (c : ℕ) (h : StateView V) (n : Name) (to : ℕ)
     (asked : IsAsked opening s c (Grant n to) h) where
   at : HeldAt s h c n.id
   at = held_at n.id refl asked

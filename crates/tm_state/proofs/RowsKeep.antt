@@ -11,29 +11,29 @@ use Rattle.tm_model.specs.Holds.{unfinished}
 use Rattle.tm_objects.specs.Stock.{Stock}
 use Rattle.tm_objects.specs.Standing.{stock_of}
 use Rattle.tm_core.proofs.CallerLemmas.{all_set, all_at, all_weaker}
-use Rattle.tm_state.specs.Holding.{Holding}
-use Rattle.tm_state.specs.Standing.{Keeps}
+use Rattle.tm_state.specs.StateView.{StateView}
+use Rattle.tm_state.specs.Represents.{Keeps}
 use Rattle.tm_state.specs.Asking.{IsAsked, HasServed}
 use Rattle.tm_state.proofs.RowsWorks.{WorksStay}
 
 module _ {V O R T : Type 0} where
   -- a may answer the request q of place c, and what is had then is what the state says then
-  abbrev pub Row : Kind V O R T → State V O R T → ℕ → Request V O R T → Answer V O R T → Holding V → Type 0
+  abbrev pub Row : Kind V O R T → State V O R T → ℕ → Request V O R T → Answer V O R T → StateView V → Type 0
   Row kind s c q a new = Serves kind s c q a × Keeps (served kind c q a s) new
 
   -- what is asked of what is had is asked of the same under another name
-  pub asked_as : {opening s : State V O R T} {c : ℕ} {q : Request V O R T} {h k : Holding V} → k ≡ h → IsAsked opening s c q h → IsAsked opening s c q k
+  pub asked_as : {opening s : State V O R T} {c : ℕ} {q : Request V O R T} {h k : StateView V} → k ≡ h → IsAsked opening s c q h → IsAsked opening s c q k
   asked_as {opening} {s} {c} {q} e asked = subst (λ x. IsAsked opening s c q x) (sym e) asked
 
   -- a request is served as the one that it is
   pub served_as :
-      (kind : Kind V O R T) (c : ℕ) (a : Answer V O R T) (old new : Holding V) {q p : Request V O R T} → q ≡ p
+      (kind : Kind V O R T) (c : ℕ) (a : Answer V O R T) (old new : StateView V) {q p : Request V O R T} → q ≡ p
       → HasServed kind c p a old new → HasServed kind c q a old new
   served_as kind c a old new e served = subst (λ x. HasServed kind c x a old new) (sym e) served
 
   -- a row that changes the live objects and the next id
   pub keeps_live :
-      (s : State V O R T) (h : Holding V) (next_id : ℕ) (live : List (Object V T)) (stock : Stock V) → Keeps s h
+      (s : State V O R T) (h : StateView V) (next_id : ℕ) (live : List (Object V T)) (stock : Stock V) → Keeps s h
       → ((c : ℕ) → unfinished c live ≡ unfinished c s.live) → WorksStay s.live live → stock ≡ stock_of (record s { next_id = next_id; live = live })
       → Keeps (record s { next_id = next_id; live = live }) (record h { stock = stock })
   keeps_live s h next_id live stock k same stay is = record {
@@ -55,7 +55,7 @@ module _ {V O R T : Type 0} where
 
   -- a row that changes the live objects and a place
   pub keeps_place :
-      (s : State V O R T) (h : Holding V) (d : ℕ) (p : Place V O R T) (live : List (Object V T)) (stock : Stock V) (closed : List Bool) → Keeps s h
+      (s : State V O R T) (h : StateView V) (d : ℕ) (p : Place V O R T) (live : List (Object V T)) (stock : Stock V) (closed : List Bool) → Keeps s h
       → ((c : ℕ) → unfinished c live ≡ unfinished c s.live) → WorksStay s.live live → p.ready ≡ (place_of s d).ready
       → stock ≡ stock_of (with_place d p (with_live live s)) → closed ≡ map (λ p. p.is_closed) (slice_set s.places d p)
       → Keeps (with_place d p (with_live live s)) (record h { stock = stock; closed = closed })

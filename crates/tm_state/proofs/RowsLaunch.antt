@@ -5,18 +5,19 @@ use Rattle.std.specs.List.{AllByRecursion}
 use Rattle.std.proofs.lemmas.Bool.{cases_eq}
 use Rattle.std.proofs.lemmas.List.{get_or-map, length-map, map-append, map-set}
 use Rattle.tm_seq.specs.Kind.{Kind}
+use Rattle.tm_batch.specs.declared.limits.TheConstants.{WINDOW}
 use Rattle.tm_batch.specs.declared.message.Name.{Name}
 use Rattle.tm_batch.specs.declared.message.Request.TheVariants.{Launch}
 use Rattle.tm_batch.specs.declared.message.Answer.TheVariants.{Launched}
-use Rattle.tm_model.specs.State.{Start, Work, State, place_count}
+use Rattle.tm_model.specs.State.{Start, Work, State, place_of, place_count}
 use Rattle.tm_model.specs.Serve as serve
 use Rattle.tm_model.specs.Holds.{unfinished}
 use Rattle.tm_objects.specs.Stock.{Stock, begun}
 use Rattle.tm_objects.proofs.Alike.{launches_alike}
 use Rattle.tm_core.proofs.CallerLemmas.{all_weaker, all-append}
 use Rattle.tm_core.proofs.Unfinished.{works_of-append, unfinished_changed}
-use Rattle.tm_state.specs.Holding.{Holding}
-use Rattle.tm_state.specs.Standing.{IsWorkOf, TicketsRise}
+use Rattle.tm_state.specs.StateView.{StateView}
+use Rattle.tm_state.specs.Represents.{IsWorkOf, TicketsRise}
 use Rattle.tm_state.specs.Asking.{IsAsked}
 use Rattle.tm_state.proofs.RowsOrder.{sound_ordered}
 use Rattle.tm_state.proofs.RowsKeep.{Row}
@@ -50,7 +51,7 @@ at_set P xs c d y z lt own others =
       | inr ne ↦ subst (λ x. P d x) (sym (get_or-set_other xs c d y z (λ e. ne (sym e)))) (others ne)
     ]
 
-module _ {V O R T : Type 0} (kind : Kind V O R T) (opening s : State V O R T) (c : ℕ) (h : Holding V) (n : Name) (task : T)
+module _ {V O R T : Type 0} (kind : Kind V O R T) (opening s : State V O R T) (c : ℕ) (h : StateView V) (n : Name) (task : T)
     (asked : IsAsked opening s c (Launch n task) h) where
   at : HeldAt s h c n.id
   at = held_at n.id refl asked
@@ -71,14 +72,14 @@ module _ {V O R T : Type 0} (kind : Kind V O R T) (opening s : State V O R T) (c
       let joined = works_of-append d o.works (w ∷ []) in
       omega (arith, more, joined)
 
-  launched_most : (ticket d : ℕ) → d < length s.places → unfinished d (serve.launched c n.id task ticket s).live ≤ 64
+  launched_most : (ticket d : ℕ) → d < length s.places → unfinished d (serve.launched c n.id task ticket s).live ≤ WINDOW
   launched_most ticket d lt =
       let most = asked.keeps.most d lt in
       let more = launched_unfinished ticket d in
       elim (cases_eq c d) [
         | inl e ↦
             let one = rw (eq-eqb c d e) at more in
-            let own = subst (λ x. unfinished x s.live + (1 + 0) ≤ 64) e asked.may.launches in
+            let own = subst (λ x. unfinished x s.live + length (place_of s x).ready + (1 + 0) ≤ WINDOW) e asked.may.launches in
             omega (arith, one, own)
         | inr ne ↦ let none = rw (ne_eqb c d ne) at more in omega (arith, none, most)
       ]

@@ -3,6 +3,7 @@ use Rattle.std.proofs.Common.{ℕ, zero, suc, ◌+◌, ◌*◌, ◌^◌, ◌<◌
 use Rattle.std.specs.List.{AllByRecursion}
 use Rattle.std.proofs.lemmas.Bool.{cases_eq}
 use Rattle.std.proofs.lemmas.List.Sums.{sum_by-cons}
+use Rattle.tm_batch.specs.declared.limits.TheConstants.{WINDOW}
 use Rattle.tm_batch.specs.declared.message.Request.{Request}
 use Rattle.tm_model.specs.State.{Work, State, place_count}
 use Rattle.tm_model.specs.Holds.{works_of}
@@ -12,7 +13,7 @@ use Rattle.tm_objects.specs.Standing.{live_of}
 use Rattle.tm_core.proofs.CallerLemmas.{all_weaker}
 use Rattle.tm_core.proofs.Finding.{all_found}
 use Rattle.tm_core.proofs.Unfinished.{unfinished_without}
-use Rattle.tm_state.specs.Holding.{Holding}
+use Rattle.tm_state.specs.StateView.{StateView}
 use Rattle.tm_state.specs.Asking.{IsAsked}
 use Rattle.tm_state.proofs.RowsOrder.{sound_ordered}
 use Rattle.tm_state.proofs.RowsLive.{HeldAt}
@@ -50,7 +51,7 @@ module _ {T : Type 0} where
   all_below n [] h = omega arith
   all_below n (w ∷ ws) h = let more = all_below n ws h.1 in let one = one_more n w ws h.0 in omega (arith, more, one)
 
-  below_few : (n : ℕ) (ws : List (Work T)) → ((c : ℕ) → c < n → works_of c ws ≤ 64) → below n ws ≤ 64 * n
+  below_few : (n : ℕ) (ws : List (Work T)) → ((c : ℕ) → c < n → works_of c ws ≤ WINDOW) → below n ws ≤ WINDOW * n
   unfolding below
   below_few zero ws h = omega arith
   below_few (suc n) ws h =
@@ -68,7 +69,7 @@ module _ {V O R T : Type 0} where
 
   -- all holds on an object and its launches are fewer than a `u64` counts
   pub total_few :
-      {opening s : State V O R T} {c : ℕ} {q : Request V O R T} {h : Holding V} {id : ℕ} → IsAsked opening s c q h → (at : HeldAt s h c id)
+      {opening s : State V O R T} {c : ℕ} {q : Request V O R T} {h : StateView V} {id : ℕ} → IsAsked opening s c q h → (at : HeldAt s h c id)
       → total (live_of at.object) < 18446744073709551615
   total_few {opening} {s} {id = id} asked at =
       let o = at.object in
@@ -77,7 +78,7 @@ module _ {V O R T : Type 0} where
       let holds = sum_few o.holds sound.holds in
       let long = sound.places in
       let few = opening_few opening asked.opens in
-      let each : (d : ℕ) → d < n → works_of d o.works ≤ 64 = λ d lt.
+      let each : (d : ℕ) → d < n → works_of d o.works ≤ WINDOW = λ d lt.
       let most = asked.keeps.most d (omega (arith, lt, asked.sound.places)) in
       let gone = unfinished_without n 1 s.next_id d id s.live o (sound_ordered opening s asked.sound).rises at.found in
       omega (arith, most, gone) in

@@ -5,7 +5,7 @@ use Rattle.std.specs.List.{AllByRecursion}
 use Rattle.std.specs.declared.option.Option.TheVariants.{Some}
 use Rattle.std.proofs.lemmas.Bool.{cases_eq}
 use Rattle.tm_model.specs.State.{Start, Work, Object, total, change, kept, without, object_of}
-use Rattle.tm_state.specs.Standing.{HasWork, IsWorkOf, TicketsRise}
+use Rattle.tm_state.specs.Represents.{HasWork, IsWorkOf, TicketsRise}
 
 module _ {T : Type 0} where
   -- launches that are followed by others, and the one behind them

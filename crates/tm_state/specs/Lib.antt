@@ -1,5 +1,5 @@
-pub mod Holding
-pub mod Standing
+pub mod StateView
+pub mod Represents
 pub mod Asking
 pub mod Opened
 pub mod PlacedObjects

@@ -4,8 +4,8 @@ use Rattle.tm_seq.specs.Kind.{Kind}
 use Rattle.tm_batch.specs.declared.config.Config.{Config}
 use Rattle.tm_batch.specs.declared.config.First.{First}
 use Rattle.tm_model.specs.Opening.{IsBuildable, placed_on, opening_of}
-use Rattle.tm_state.specs.Holding.{Holding}
-use Rattle.tm_state.specs.Standing.{Stands}
+use Rattle.tm_state.specs.StateView.{StateView}
+use Rattle.tm_state.specs.Represents.{Represents}
 
 module _ {V : Type 0} where
   -- the objects `first` are those that a whole list of the build places on trustee `number`, in order
@@ -18,6 +18,6 @@ module _ {V : Type 0} where
   IsOpenable number config first = (whole : List (First V)) × MayOpen number config whole first
 
 -- whatever the whole list is, a trustee has what the state says in which it opens
-abbrev pub HasOpened : {V O R T : Type 0} → Kind V O R T → ℕ → Config → List (First V) → Holding V → Type 0
+abbrev pub HasOpened : {V O R T : Type 0} → Kind V O R T → ℕ → Config → List (First V) → StateView V → Type 0
 HasOpened {V} {O} {R} {T} kind number config first h =
-    (whole : List (First V)) → MayOpen number config whole first → Stands kind (opening_of number config whole) [] h
+    (whole : List (First V)) → MayOpen number config whole first → Represents kind (opening_of number config whole) [] h

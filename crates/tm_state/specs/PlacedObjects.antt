@@ -6,7 +6,7 @@ use Rattle.tm_batch.specs.declared.config.First.{First}
 use Rattle.tm_model.specs.Opening.{opened}
 use Rattle.tm_objects.specs.Stock.{Stock}
 use Rattle.tm_objects.specs.Standing.{live_of}
-use Rattle.tm_state.specs.Holding.{Holding}
+use Rattle.tm_state.specs.StateView.{StateView}
 
 module _ {V : Type 0} where
   -- an object of the build may be placed behind those of a stock: its holders are places, none of them twice, there is room and an id,
@@ -29,7 +29,7 @@ module _ {V : Type 0} where
     }
 
     -- what trustee `number` has before anything runs, where the objects `front` of the build are placed on it
-    abbrev pub begun_with : ℕ → Config → List (First V) → Holding V
+    abbrev pub begun_with : ℕ → Config → List (First V) → StateView V
     begun_with number config front = record {
       config = config;
       number = number;

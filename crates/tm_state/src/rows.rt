@@ -3,13 +3,13 @@ ghost use Rattle.std.specs.Prelude.{◌≡◌};
 ghost use Rattle.tm_batch.specs.declared.message.Request.TheVariants.{Entrust, Apply, Launch, Grant, Release, Reclaim, Bye};
 ghost use Rattle.tm_state.specs.Asking.{IsServable, HasServed};
 
-use crate::estate::Estate;
+use crate::state::TrusteeState;
 use crate::work::Work;
 use tm_batch::{Answer, Name, Request};
 use tm_objects::More;
 use tm_seq::Entrusted;
 
-impl<S: Entrusted> Estate<S> {
+impl<S: Entrusted> TrusteeState<S> {
     /// Serves a request of a place by its row. The counts of requests and entries stay.
     pub(crate) fn serve(&mut self, place: u32, request: Request<S>) -> Answer<S>
         requires { IsServable S.kind place request self.old }
@@ -90,6 +90,7 @@ impl<S: Entrusted> Estate<S> {
         ensures run { self.new.run ≡ self.old.run }
         ensures entries { self.new.entries ≡ self.old.entries }
     {
+        // Whether the object went changes no answer.
         let _ = self.objects.release(name, place);
         Answer::Released
     }
@@ -112,6 +113,7 @@ impl<S: Entrusted> Estate<S> {
         ensures run { self.new.run ≡ self.old.run }
         ensures entries { self.new.entries ≡ self.old.entries }
     {
+        // Nor does how many objects go.
         let _ = self.objects.drop_client(place);
         self.closed[place as usize] = true;
         Answer::ByeDone

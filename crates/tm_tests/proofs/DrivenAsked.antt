@@ -10,14 +10,12 @@ use Rattle.tm_batch.specs.declared.message.Request.TheVariants.{Entrust, Apply, 
 use Rattle.tm_model.specs.State.{State}
 use Rattle.tm_model.specs.Holds.{Names, gave, came, has_bye, launches_in, ended_in}
 use Rattle.tm_model.specs.Orderly.{IsOrderly}
-use Rattle.tm_model.specs.Slots.{no_slot}
-use Rattle.tm_pair.specs.Views.{ClientView}
-use Rattle.tm_pair.specs.Stands.{client_of}
+use Rattle.tm_pair.specs.Views.{ClientView, new_client}
 use Rattle.tm_pair.specs.Calls.{Collects}
 use Rattle.tm_pair.specs.declared.table.Collected.{Collected}
 use Rattle.tm_pair.specs.declared.table.Collected.TheVariants.{Answers, Pending, Idle}
 use Rattle.tm_tests.specs.Sample.{the_name}
-use Rattle.tm_tests.specs.Driving.{counting, adds_and_releases, EndsNothing, MayBye}
+use Rattle.tm_tests.specs.Driving.{counting, adds_and_releases, entrusts_two, EndsNothing, MayBye}
 
 module _ {V O R T : Type 0} where
   launches_and_bye : (qs : List (Request V O R T)) → launches_in (qs ++ Bye ∷ []) ≡ launches_in qs
@@ -68,7 +66,7 @@ may_bye_then old new found h sent none ends =
     record { before = ap (λ l. has_bye l) same; launches = ap (λ l. launches_in l) same; ended = ended_sum old new found h none ends }
 
 -- so may one that sent nothing
-pub may_bye_first : {V O R T : Type 0} (c : ℕ) (view : ClientView V O R T) → view ≡ client_of c no_slot → MayBye view
+pub may_bye_first : {V O R T : Type 0} (c : ℕ) (view : ClientView V O R T) → view ≡ new_client c → MayBye view
 may_bye_first c view is = subst (λ v. MayBye v) (sym is) (record { before = refl; launches = refl; ended = refl })
 
 sum_held :
@@ -87,6 +85,24 @@ sum_held (b ∷ d ∷ f ∷ before) after q id e names = absurd cc
 pub sum_orderly : IsOrderly (counting 1) 0 [] [] adds_and_releases
 sum_orderly = record {
   held = sum_held;
+  grants = (tt, (tt, tt));
+  launches = omega arith;
+  bye = λ e. absurd cc;
+  last = λ e. absurd cc;
+  trustee = λ le. absurd (omega (arith, le));
+}
+
+two_held :
+    (before after : List (Request Counter CounterOp CounterReply CounterTask)) (q : Request Counter CounterOp CounterReply CounterTask) (id : ℕ)
+    → entrusts_two ≡ before ++ q ∷ after → ¬ Names q id
+two_held [] after q id e names = let at : q ≡ Entrust (record { value = 1 }) = cc in subst (λ r. Names r id) at names
+two_held (b ∷ []) after q id e names = let at : q ≡ Entrust (record { value = 2 }) = cc in subst (λ r. Names r id) at names
+two_held (b ∷ d ∷ []) after q id e names = absurd cc
+two_held (b ∷ d ∷ f ∷ before) after q id e names = absurd cc
+
+pub two_orderly : IsOrderly (counting 1) 0 [] [] entrusts_two
+two_orderly = record {
+  held = λ before after q id e names. absurd (two_held before after q id e names);
   grants = (tt, (tt, tt));
   launches = omega arith;
   bye = λ e. absurd cc;

@@ -1,8 +1,10 @@
 -- How the trustees of the tests begin.
 use Rattle.std.proofs.Common.{◌≡◌, ℕ, zero, suc, ◌+◌, ◌<◌, ◌==◌, List, [], ◌∷◌, map, filter, refl, sym, subst, arith}
-use Rattle.std.specs.Prelude.{slice_get, IsSomeAnd}
+use Rattle.std.specs.Prelude.{slice_get, slice_index_or, IsSomeAnd}
 use Rattle.std.specs.List.{IsDistinct}
-use Rattle.std.specs.declared.option.Option.TheVariants.{Some}
+use Rattle.std.proofs.Math.ListN.{replicate}
+use Rattle.std.specs.declared.option.Option.{Option}
+use Rattle.std.specs.declared.option.Option.TheVariants.{None, Some}
 use Rattle.std.proofs.lemmas.List.Sums.{length-filter, count_by-le-length}
 use Rattle.tm_seq.specs.Counting.{counter_kind}
 use Rattle.tm_seq.specs.declared.counter.Counter.{Counter}
@@ -13,11 +15,13 @@ use Rattle.tm_batch.specs.declared.config.First.{First}
 use Rattle.tm_batch.specs.declared.message.Name.{Name}
 use Rattle.tm_model.specs.State.{State, ids_above}
 use Rattle.tm_model.specs.Opening.{is_named, IsBuildable, placed_on}
-use Rattle.tm_pair.specs.Views.{ClientView, TrusteeView}
-use Rattle.tm_trustee.specs.Standing.{IsServing}
+use Rattle.tm_pair.specs.Theory.{Theory}
+use Rattle.tm_trustee.specs.Serving.{IsServing}
 use Rattle.tm_trustee.specs.Begun.{MayBegin}
 use Rattle.tm_trustee.specs.Tables.{AreAmong}
+use Rattle.tm_trustee.proofs.TurningReady.{IsHome}
 use Rattle.tm_tests.specs.Driving.{small, one_counter, counting, IsDriven}
+use Rattle.tm_tests.proofs.DrivenKept.{is_some}
 use Rattle.tm_trustee.specs.declared.trustee.Trustee.{Trustee}
 
 pub small_buildable : IsBuildable small one_counter
@@ -58,59 +62,65 @@ begins_with n first names seats lt placed none sides = record {
   sides = sides;
 }
 
-module _ {Table Client Owner : Type 0} (opening_at : Table → State Counter CounterOp CounterReply CounterTask)
-    (client_view : Client → ClientView Counter CounterOp CounterReply CounterTask) (HasClient : Table → Client → Type 0)
-    (HasTrustee : Table → Owner → Type 0) (trustee_view : Owner → TrusteeView Counter CounterOp CounterReply CounterTask) where
+-- no batch is in hand at a side of any number of places at first
+pub none_in_hand : {X : Type 0} (n c : ℕ) → slice_index_or (replicate {A = Option X} n None) c None ≡ None
+none_in_hand zero c = refl
+none_in_hand (suc n) zero = refl
+none_in_hand (suc n) (suc c) = none_in_hand n c
+
+module _ {Table Client Owner : Type 0} (theory : Theory Counter CounterOp CounterReply CounterTask Table Client Owner) where
   each_opens :
-      (low high : Table) → opening_at low ≡ counting 0 → opening_at high ≡ counting 1 → (t : ℕ) (table : Table)
-      → slice_get (low ∷ high ∷ []) t ≡ Some table → opening_at table ≡ counting t
-  each_opens low high at_low at_high zero table e = let is : low ≡ table = cc in subst (λ x. opening_at x ≡ counting 0) is at_low
-  each_opens low high at_low at_high (suc zero) table e = let is : high ≡ table = cc in subst (λ x. opening_at x ≡ counting 1) is at_high
+      (low high : Table) → theory.opening low ≡ counting 0 → theory.opening high ≡ counting 1 → (t : ℕ) (table : Table)
+      → slice_get (low ∷ high ∷ []) t ≡ Some table → theory.opening table ≡ counting t
+  each_opens low high at_low at_high zero table e = let is : low ≡ table = cc in subst (λ x. theory.opening x ≡ counting 0) is at_low
+  each_opens low high at_low at_high (suc zero) table e = let is : high ≡ table = cc in subst (λ x. theory.opening x ≡ counting 1) is at_high
   each_opens low high at_low at_high (suc (suc t)) table e = absurd cc
 
   -- a trustee is ready that serves, whose own side is of the table of its number, and whose sides above are of those behind
   begun_ready :
-      (low high : Table) (n : ℕ) (t : Trustee Counter Table CounterOp CounterReply CounterTask Client Owner)
-      → opening_at low ≡ counting 0 → opening_at high ≡ counting 1
-      → IsServing counter_kind (counting n) t.number t.clients t.estate (trustee_view t.side) t.stages.items (map client_view t.above.items) t.nested.items
-      → IsSomeAnd (slice_get (low ∷ high ∷ []) n) (λ table. (opening_at table ≡ counting n) × HasTrustee table t.side)
-      → AreAmong opening_at client_view HasClient HasTrustee (low ∷ high ∷ []) (n + 1) t.above.items
-      → IsDriven opening_at client_view HasClient HasTrustee trustee_view (low ∷ high ∷ []) n t
-  begun_ready low high n t at_low at_high serving home above =
+      (low high own : Table) (n : ℕ) (t : Trustee Counter Table CounterOp CounterReply CounterTask Client Owner)
+      → theory.opening low ≡ counting 0 → theory.opening high ≡ counting 1 → slice_get (low ∷ high ∷ []) n ≡ Some own
+      → theory.opening own ≡ counting n → IsServing theory counter_kind (counting n) t → theory.HasTrustee own t.side
+      → AreAmong theory (low ∷ high ∷ []) (n + 1) t.above.items → IsDriven theory (low ∷ high ∷ []) n t
+  begun_ready low high own n t at_low at_high here opens serving has above =
       let is : t.number ≡ n = serving.number in
+      let home : IsSomeAnd (slice_get (low ∷ high ∷ []) n) (IsHome theory counter_kind t) =
+      is_some (slice_get (low ∷ high ∷ []) n) (IsHome theory counter_kind t) own here
+      (has, subst (λ s. IsServing theory counter_kind s t) (sym opens) serving) in
       record {
-        serving = serving;
-        built = record { built = (small, one_counter, each_opens low high at_low at_high) };
-        home = subst (λ m. IsSomeAnd (slice_get (low ∷ high ∷ []) m) (λ table. (opening_at table ≡ counting n) × HasTrustee table t.side)) (sym is) home;
-        above = subst (λ m. AreAmong opening_at client_view HasClient HasTrustee (low ∷ high ∷ []) (m + 1) t.above.items) (sym is) above;
+        ready = record {
+          home = subst (λ m. IsSomeAnd (slice_get (low ∷ high ∷ []) m) (IsHome theory counter_kind t)) (sym is) home;
+          built = record { built = (small, one_counter, each_opens low high at_low at_high) };
+          above = subst (λ m. AreAmong theory (low ∷ high ∷ []) (m + 1) t.above.items) (sym is) above;
+        };
+        number = is;
+        clients = serving.clients;
       }
 
   pub greater_ready :
       (low high : Table) (t : Trustee Counter Table CounterOp CounterReply CounterTask Client Owner)
-      → opening_at low ≡ counting 0 → opening_at high ≡ counting 1
-      → IsServing counter_kind (counting 1) t.number t.clients t.estate (trustee_view t.side) t.stages.items (map client_view t.above.items) t.nested.items
-      → HasTrustee high t.side → t.above.items ≡ [] → IsDriven opening_at client_view HasClient HasTrustee trustee_view (low ∷ high ∷ []) 1 t
+      → theory.opening low ≡ counting 0 → theory.opening high ≡ counting 1 → IsServing theory counter_kind (counting 1) t
+      → theory.HasTrustee high t.side → t.above.items ≡ [] → IsDriven theory (low ∷ high ∷ []) 1 t
   greater_ready low high t at_low at_high serving has none =
-      begun_ready low high 1 t at_low at_high serving (at_high, has)
-      (subst (λ l. AreAmong opening_at client_view HasClient HasTrustee (low ∷ high ∷ []) 2 l) (sym none)
-      (record { as_many = refl; mine = λ i table seat at of. absurd cc }))
+      begun_ready low high high 1 t at_low at_high refl at_high serving has
+      (subst (λ l. AreAmong theory (low ∷ high ∷ []) 2 l) (sym none) (record { as_many = refl; mine = λ i table seat at of. absurd cc }))
 
   seat_of_high :
-      (low high : Table) (seat : Client) → HasClient high seat → (i : ℕ) (table : Table) (side : Client) → slice_get (low ∷ high ∷ []) (suc i) ≡ Some table
-      → slice_get (seat ∷ []) i ≡ Some side → HasClient table side
+      (low high : Table) (seat : Client) → theory.HasClient high seat → (i : ℕ) (table : Table) (side : Client)
+      → slice_get (low ∷ high ∷ []) (suc i) ≡ Some table → slice_get (seat ∷ []) i ≡ Some side → theory.HasClient table side
   seat_of_high low high seat has zero table side at of =
-      let here : high ≡ table = cc in let is : seat ≡ side = cc in subst (λ x. HasClient x side) here (subst (λ y. HasClient high y) is has)
+      let here : high ≡ table = cc in
+      let is : seat ≡ side = cc in
+      subst (λ x. theory.HasClient x side) here (subst (λ y. theory.HasClient high y) is has)
   seat_of_high low high seat has (suc i) table side at of = absurd cc
 
   pub lesser_ready :
       (low high : Table) (t : Trustee Counter Table CounterOp CounterReply CounterTask Client Owner) (seat : Client)
-      → opening_at low ≡ counting 0 → opening_at high ≡ counting 1
-      → IsServing counter_kind (counting 0) t.number t.clients t.estate (trustee_view t.side) t.stages.items (map client_view t.above.items) t.nested.items
-      → HasTrustee low t.side → HasClient high seat → t.above.items ≡ seat ∷ []
-      → IsDriven opening_at client_view HasClient HasTrustee trustee_view (low ∷ high ∷ []) 0 t
+      → theory.opening low ≡ counting 0 → theory.opening high ≡ counting 1 → IsServing theory counter_kind (counting 0) t
+      → theory.HasTrustee low t.side → theory.HasClient high seat → t.above.items ≡ seat ∷ [] → IsDriven theory (low ∷ high ∷ []) 0 t
   lesser_ready low high t seat at_low at_high serving has sits one =
-      begun_ready low high 0 t at_low at_high serving (at_low, has)
-      (subst (λ l. AreAmong opening_at client_view HasClient HasTrustee (low ∷ high ∷ []) 1 l) (sym one)
+      begun_ready low high low 0 t at_low at_high refl at_low serving has
+      (subst (λ l. AreAmong theory (low ∷ high ∷ []) 1 l) (sym one)
       (record {
         as_many = refl;
         mine = λ i table side at of.

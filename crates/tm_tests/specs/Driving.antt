@@ -7,13 +7,14 @@ use Rattle.tm_seq.specs.declared.counter.CounterOp.TheVariants.{Add}
 use Rattle.tm_seq.specs.declared.counter.CounterReply.{CounterReply}
 use Rattle.tm_seq.specs.declared.counter.CounterTask.{CounterTask}
 use Rattle.tm_batch.specs.declared.message.Request.{Request}
-use Rattle.tm_batch.specs.declared.message.Request.TheVariants.{Apply, Release}
+use Rattle.tm_batch.specs.declared.message.Request.TheVariants.{Entrust, Apply, Release}
 use Rattle.tm_batch.specs.declared.config.Config.{Config}
 use Rattle.tm_batch.specs.declared.config.First.{First}
 use Rattle.tm_model.specs.State.{State}
 use Rattle.tm_model.specs.Opening.{opening_of}
 use Rattle.tm_model.specs.Holds.{has_bye, launches_in, ended_in}
-use Rattle.tm_pair.specs.Views.{ClientView, TrusteeView}
+use Rattle.tm_pair.specs.Views.{ClientView}
+use Rattle.tm_pair.specs.Theory.{Theory}
 use Rattle.tm_pair.specs.declared.table.Collected.{Collected}
 use Rattle.tm_pair.specs.declared.table.Collected.TheVariants.{Answers, Pending, Idle}
 use Rattle.tm_trustee.specs.Tables.{IsReady}
@@ -21,7 +22,7 @@ use Rattle.tm_tests.specs.Sample.{the_name}
 use Rattle.tm_trustee.specs.declared.trustee.Trustee.{Trustee}
 
 abbrev pub small : Config
-small = record { clients = 1; trustees = 2; objects = 4; trusts = 4; last_id = 9 }
+small = record { clients = 1; trustees = 2; objects = 4096; trusts = 4; last_id = 9 }
 
 abbrev pub one_counter : List (First Counter)
 one_counter = record { trustee = 1; value = record { value = 0 }; holders = 0 ∷ [] } ∷ []
@@ -33,6 +34,10 @@ counting n = opening_of n small one_counter
 -- 5 is added to it, and it is given up
 abbrev pub adds_and_releases : {V R T : Type 0} → List (Request V CounterOp R T)
 adds_and_releases = Apply the_name (Add 5) ∷ Release the_name ∷ []
+
+-- two counters are entrusted
+abbrev pub entrusts_two : List (Request Counter CounterOp CounterReply CounterTask)
+entrusts_two = Entrust (record { value = 1 }) ∷ Entrust (record { value = 2 }) ∷ []
 
 -- answers were found by which no launch ended
 abbrev pub EndsNothing : {V O R T : Type 0} → Collected V O R T → Type 0
@@ -46,19 +51,19 @@ pub record MayBye {V O R T : Type 0} (view : ClientView V O R T) : Type 0 where
   pub launches : launches_in view.sent ≡ 0
   pub ended : ended_in view.got ≡ 0
 
-module _ {Table Client Owner : Type 0} (opening_at : Table → State Counter CounterOp CounterReply CounterTask)
-    (client_view : Client → ClientView Counter CounterOp CounterReply CounterTask) (HasClient : Table → Client → Type 0)
-    (HasTrustee : Table → Owner → Type 0) (trustee_view : Owner → TrusteeView Counter CounterOp CounterReply CounterTask) where
+module _ {Table Client Owner : Type 0} (theory : Theory Counter CounterOp CounterReply CounterTask Table Client Owner) where
   -- a side is of the table of trustee n
   abbrev pub IsSeated : List Table → ℕ → Client → Type 0
-  IsSeated tables n side = IsSomeAnd (slice_get tables n) (λ table. (opening_at table ≡ counting n) × HasClient table side)
+  IsSeated tables n side = IsSomeAnd (slice_get tables n) (λ table. (theory.opening table ≡ counting n) × theory.HasClient table side)
 
   -- trustee n is ready for a turn
-  abbrev pub IsDriven : List Table → ℕ → Trustee Counter Table CounterOp CounterReply CounterTask Client Owner → Type 0
-  IsDriven tables n t = IsReady opening_at client_view HasClient HasTrustee counter_kind trustee_view (counting n) tables t
+  pub record IsDriven (tables : List Table) (n : ℕ) (t : Trustee Counter Table CounterOp CounterReply CounterTask Client Owner) : Type 0 where
+    pub ready : IsReady theory counter_kind tables t
+    pub number : t.number ≡ n
+    pub clients : t.clients ≡ 1
 
   -- what a call at a side of place c leaves, and a turn of the trustee that has place c above: the sides of other places, and the trustees
   -- that have another place above
   pub record KeepsOthers (old new : List Table) (c : ℕ) : Type 0 where
-    pub sides : (n : ℕ) (other : Client) → (client_view other).place ≢ c → IsSeated old n other → IsSeated new n other
+    pub sides : (n : ℕ) (other : Client) → (theory.client_view other).place ≢ c → IsSeated old n other → IsSeated new n other
     pub trustees : (n : ℕ) (t : Trustee Counter Table CounterOp CounterReply CounterTask Client Owner) → 1 + n ≢ c → IsDriven old n t → IsDriven new n t

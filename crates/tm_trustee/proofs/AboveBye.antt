@@ -1,23 +1,35 @@
--- A Bye alone is orderly for a side that sent nothing.
-use Rattle.std.proofs.Common.{◌≡◌, ℕ, ◌<◌, lit<, length, ap, false, List, [], ◌∷◌, ◌++◌, refl, sym, ◌∙◌, subst, arith}
-use Rattle.std.specs.Prelude.{not, IsOk, OnOk}
+-- A Bye alone is orderly for a side that asked applies alone and has said none.
+use Rattle.std.proofs.Common.{◌≡◌, ◌<◌, lit<, length, ap, true, false, List, [], ◌∷◌, ◌++◌, inl, inr, refl, sym, ◌∙◌, subst, arith}
+use Rattle.std.specs.Prelude.{not, IsOk, OnOk, IsSome}
+use Rattle.std.specs.List.{AllByRecursion}
 use Rattle.std.specs.declared.option.Option.TheVariants.{None}
 use Rattle.std.specs.declared.result.Result.{Result}
 use Rattle.std.specs.declared.result.Result.TheVariants.{Ok, Err}
 use denote.Enum.Bare.{sameb}
+use Rattle.tm_seq.specs.Kind.{Kind}
 use Rattle.tm_batch.specs.declared.message.Request.{Request}
-use Rattle.tm_batch.specs.declared.message.Request.TheVariants.{Bye}
-use Rattle.tm_batch.specs.declared.message.AnswerBatch.{AnswerBatch}
-use Rattle.tm_model.specs.State.{State}
-use Rattle.tm_model.specs.Orderly.{IsOrderly}
+use Rattle.tm_batch.specs.declared.message.Request.TheVariants.{Entrust, Apply, Launch, Grant, Release, Reclaim, Bye}
+use Rattle.tm_model.specs.State.{State, place_count}
+use Rattle.tm_model.specs.Holds.{has_bye, launches_in, ended_in}
+use Rattle.tm_model.specs.Ran.{ran}
+use Rattle.tm_model.specs.Orderly.{IsOrderly, IsOfTrustee}
 use Rattle.tm_model.proofs.Byes.{bye_names}
+use Rattle.tm_core.proofs.First.{opening_unfinished}
+use Rattle.tm_core.proofs.LaunchLog.{log_launches}
+use Rattle.tm_core.proofs.Numbering.{opening_place}
+use Rattle.tm_core.proofs.Ordered.{opening_ordered}
+use Rattle.tm_core.proofs.Tallies.{launches_in-append}
 use Rattle.tm_pair.specs.Views.{ClientView}
-use Rattle.tm_trustee.specs.Above.{IsAt}
+use Rattle.tm_pair.specs.Calls.{MaySend}
+use Rattle.tm_pair.specs.Sides.{HasRun, IsGoodClient}
+use Rattle.tm_pair.specs.Theory.{Theory, TheoryLaws}
+use Rattle.tm_trustee.specs.Above.{IsAt, PublishesBye, SaysByeAt, one_if}
+use Rattle.tm_trustee.specs.AboveAt.{MovesUp}
 use Rattle.tm_trustee.specs.contracts.stage.Stage.{the_type}
 use Rattle.tm_trustee.specs.declared.stage.Stage.{Stage}
 use Rattle.tm_trustee.specs.declared.stage.Stage.TheVariants.{Before, Out, Over}
 
-on_ok : {X E P : Type 0} (r : Result X E) → IsOk r → OnOk r P → P
+pub on_ok : {X E P : Type 0} (r : Result X E) → IsOk r → OnOk r P → P
 on_ok (Ok x) is h = h
 on_ok (Err e) is h = absurd cc
 
@@ -27,23 +39,30 @@ is_before Out e = absurd cc
 is_before Over e = absurd cc
 
 module _ {V O R T : Type 0} where
-  first_bye : (opening : State V O R T) (c : ℕ) → IsOrderly opening c [] [] (Bye ∷ [])
-  first_bye opening c = record {
-    held = λ before after q id e names. absurd (bye_names before after q id e names);
-    grants = (tt, tt);
-    launches = omega arith;
-    bye = λ e. (refl, refl);
-    last = λ e. absurd cc;
-    trustee = λ le. (tt, tt);
-  }
+  -- applies and Byes launch nothing
+  no_launches : (qs : List (Request V O R T)) → AllByRecursion IsOfTrustee qs → launches_in qs ≡ 0
+  no_launches [] all = refl
+  no_launches (Apply n op ∷ qs) all = no_launches qs all.1
+  no_launches (Bye ∷ qs) all = no_launches qs all.1
+  no_launches (Entrust v ∷ qs) all = absurd all.0
+  no_launches (Launch n task ∷ qs) all = absurd all.0
+  no_launches (Grant n d ∷ qs) all = absurd all.0
+  no_launches (Release n ∷ qs) all = absurd all.0
+  no_launches (Reclaim n ∷ qs) all = absurd all.0
 
-  -- so it is where nothing was sent and nothing came
-  pub bye_is_orderly :
-      (opening : State V O R T) (c : ℕ) (sent : List (Request V O R T)) (got : List (AnswerBatch V O R T)) (b : List (Request V O R T))
-      → sent ≡ [] → got ≡ [] → b ≡ Bye ∷ [] → IsOrderly opening c sent got b
-  bye_is_orderly opening c sent got b none nothing is =
-      subst (λ s. IsOrderly opening c s got b) (sym none)
-      (subst (λ g. IsOrderly opening c [] g b) (sym nothing) (subst (λ x. IsOrderly opening c [] [] x) (sym is) (first_bye opening c)))
+  pub asked_more : (qs ps : List (Request V O R T)) → AllByRecursion IsOfTrustee qs → AllByRecursion IsOfTrustee ps → AllByRecursion IsOfTrustee (qs ++ ps)
+  asked_more [] ps first then = then
+  asked_more (q ∷ qs) ps first then = (first.0, asked_more qs ps first.1 then)
+
+  pub bye_said : (qs : List (Request V O R T)) → has_bye (qs ++ Bye ∷ []) ≡ true
+  bye_said [] = refl
+  bye_said (Bye ∷ qs) = refl
+  bye_said (Apply n op ∷ qs) = bye_said qs
+  bye_said (Entrust v ∷ qs) = bye_said qs
+  bye_said (Launch n task ∷ qs) = bye_said qs
+  bye_said (Grant n d ∷ qs) = bye_said qs
+  bye_said (Release n ∷ qs) = bye_said qs
+  bye_said (Reclaim n ∷ qs) = bye_said qs
 
   -- what a batch has that was empty, once a Bye was appended
   pub one_bye :
@@ -53,8 +72,86 @@ module _ {V O R T : Type 0} where
       let room : length empty < 16 = subst (λ l. length l < 16) (sym none) (lit< tt) in
       on_ok pushed (free room) ok ∙ ap (λ l. l ++ Bye ∷ []) none
 
-  -- what a side sent and got before its Bye
-  pub before_bye : (stage : Stage) (view : ClientView V O R T) → stage ≡ Before → IsAt stage view → (view.sent ≡ []) × (view.got ≡ []) × (view.out ≡ None)
+  -- a side that is before its Bye has said none, and nothing is out
+  pub before_bye : (stage : Stage) (view : ClientView V O R T) → stage ≡ Before → IsAt stage view → (has_bye view.sent ≡ false) × (view.out ≡ None)
   before_bye Before view e at = at
   before_bye Out view e at = absurd cc
   before_bye Over view e at = absurd cc
+
+  module _ (kind : Kind V O R T) (opening : State V O R T) (view : ClientView V O R T) (good : IsGoodClient kind opening view)
+      (asked : AllByRecursion IsOfTrustee view.sent) (free : view.out ≡ None) where
+    -- no launch of it ended, since there was none
+    none_ended : ended_in view.got ≡ 0
+    none_ended =
+        let c = view.place in
+        let n = place_count opening.setup in
+        let runs = subst (λ out. HasRun out view.sent (ran c view.seen)) free good.runs in
+        let none = no_launches view.sent asked in
+        let same = ap launches_in runs in
+        let flow = log_launches kind n c good.in_range 0 [] opening view.seen (opening_ordered opening good.opens) good.is_legal in
+        let nothing = opening_unfinished opening c good.opens in
+        let not_ready = ap (λ p. length p.ready) (opening_place opening c good.opens good.in_range).1 in
+        let left = ap ended_in good.leaves in
+        omega (arith, flow, none, same, nothing, not_ready, left)
+
+    pub bye_is_orderly : has_bye view.sent ≡ false → (b : List (Request V O R T)) → b ≡ Bye ∷ [] → MaySend opening view b
+    bye_is_orderly unsaid b is _ =
+        let none = no_launches view.sent asked in
+        let ended = none_ended in
+        let more = launches_in-append view.sent (Bye ∷ []) in
+        let orderly : IsOrderly opening view.place view.sent view.got (Bye ∷ []) = record {
+          held = λ before after q id e names. absurd (bye_names before after q id e names);
+          grants = (tt, tt);
+          launches = omega (arith, none, more);
+          bye = λ e. (refl, none ∙ sym ended);
+          last = λ said. let both : true ≡ false = sym said ∙ unsaid in absurd cc;
+          trustee = λ le. (tt, tt);
+        } in
+        subst (λ x. IsOrderly opening view.place view.sent view.got x) (sym is) orderly
+
+-- a stage that is not before the Bye is of a side that said it
+has_said :
+    {V O R T : Type 0} (stage : Stage) (view : ClientView V O R T) → true ≡ not (sameb the_type stage Before) → IsAt stage view
+    → has_bye view.sent ≡ true
+has_said Before view e at = absurd cc
+has_said Out view e at = at.0
+has_said Over view e at = at.0
+
+module _ {V O R T Table Client Owner : Type 0} (theory : Theory V O R T Table Client Owner) where
+  -- where Bye was said before, nothing is done
+  pub said_before :
+      (kind : Kind V O R T) → TheoryLaws theory kind → (table : Table) (side : Client) (stage : Stage) → theory.HasClient table side
+      → AllByRecursion IsOfTrustee (theory.client_view side).sent → IsAt stage (theory.client_view side) → true ≡ not (sameb the_type stage Before)
+      → MovesUp theory (SaysByeAt theory (Unit {0})) table table side side stage false
+  said_before kind laws table side stage mine asked at e = record {
+    goes = inr (refl, refl, inl (has_said stage (theory.client_view side) e at));
+    asked = asked;
+    at = at;
+    place = refl;
+    moved = omega arith;
+    keeps = record { same = laws.same_refl table; opening = refl; mine = mine; clients = λ other ne has. has; trustee = λ other has. has };
+  }
+
+  -- where it is said now, it is out
+  pub says_now :
+      (was now : Table) (old new : Client) → AllByRecursion IsOfTrustee (theory.client_view old).sent → has_bye (theory.client_view old).sent ≡ false
+      → (theory.client_view old).out ≡ None → PublishesBye theory was now old new
+      → MovesUp theory (SaysByeAt theory (Unit {0})) was now old new Out true
+  says_now was now old new asked unsaid free says =
+      let (batch, is, room, publishes, did, keeps) = says in
+      let view = theory.client_view new in
+      let sent : view.sent ≡ (theory.client_view old).sent ++ Bye ∷ [] = publishes.sent ∙ ap (λ b. (theory.client_view old).sent ++ b) is in
+      let got : length view.got ≡ length (theory.client_view old).got = ap (λ l. length l) publishes.got in
+      let out : one_if view.out ≡ 1 = ap one_if publishes.out in
+      let none : one_if (theory.client_view old).out ≡ 0 = ap one_if free in
+      record {
+        goes = inl (tt, unsaid, says);
+        asked = subst (λ l. AllByRecursion IsOfTrustee l) (sym sent) (asked_more (theory.client_view old).sent (Bye ∷ []) asked (tt, tt));
+        at = (
+          subst (λ l. has_bye l ≡ true) (sym sent) (bye_said (theory.client_view old).sent),
+          subst (λ o. IsSome o) (sym publishes.out) refl,
+        );
+        place = publishes.place;
+        moved = omega (arith, got, out, none);
+        keeps = keeps;
+      }

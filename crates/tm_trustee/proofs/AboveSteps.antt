@@ -2,17 +2,20 @@
 use Rattle.std.proofs.Common.{◌≡◌, ◌≢◌, ℕ, zero, suc, ◌+◌, ◌<◌, ◌≤◌, ◌⊎◌, inl, inr, Bool, true, false, cond, List, [], ◌∷◌, length, map, refl, sym, ◌∙◌, ap, subst, add_assoc, arith, length-set}
 use mir.Val.{bool_byte}
 use Rattle.std.specs.Prelude.{slice_get, slice_set}
+use Rattle.std.specs.List.{AllByRecursion}
+use Rattle.tm_seq.specs.Kind.{Kind}
 use Rattle.std.specs.declared.option.Option.TheVariants.{Some}
 use Rattle.std.proofs.lemmas.List.{length-map, map-set}
 use Rattle.std.proofs.lemmas.Option.{slice_get_within}
-use Rattle.tm_model.specs.State.{State}
+use Rattle.tm_model.specs.Orderly.{IsOfTrustee}
+use Rattle.tm_pair.specs.Theory.{Theory, TheoryLaws}
 use Rattle.tm_pair.specs.Views.{ClientView}
-use Rattle.tm_pair.specs.declared.moves.Move.{Move}
-use Rattle.tm_trustee.specs.Above.{IsAt, LooksUp, SaysBye, LooksUpAt, SaysByeAt, moves_up, all_moves_up, Each, IsAbove}
+use Rattle.tm_trustee.specs.Above.{IsAt, moves_up, all_moves_up, IsAbove}
 use Rattle.tm_trustee.specs.AboveAt.{MovesUp, MovesAt, EachAt}
 use Rattle.tm_trustee.specs.Tables.{AreAmong, KeepsAbove}
 use Rattle.tm_trustee.specs.declared.stage.Stage.{Stage}
-use Rattle.tm_trustee.proofs.Elements.{set_cases, set_other, element_at, same_element, mapped_from, mapped}
+use Rattle.tm_trustee.proofs.Elements.{set_cases, set_other, same_element, mapped_from, mapped}
+use Rattle.tm_trustee.proofs.Keeping.{keeps_none, keeps_on, keeps_set}
 
 shifted : (a b d rest : ℕ) → b ≡ 0 → a ≡ d → a + rest ≡ (b + rest) + d
 shifted a b d rest none is = omega arith
@@ -48,53 +51,48 @@ module _ {V O R T : Type 0} where
   one_moves (o ∷ olds) (n ∷ news) (suc i) old new eo en =
       ap (λ t. moves_up o n + t) (one_moves olds news i old new eo en) ∙ sym (add_assoc (moves_up o n) (all_moves_up olds news) (moves_up old new))
 
-module _ {V O R T Table Client Owner : Type 0} (opening_at : Table → State V O R T) (client_view : Client → ClientView V O R T)
-    (HasClient : Table → Client → Type 0) (HasTrustee : Table → Owner → Type 0)
-    (Goes : Table → Table → ClientView V O R T → ClientView V O R T → Type 0) where
+module _ {V O R T Table Client Owner : Type 0} (theory : Theory V O R T Table Client Owner)
+    (Goes : Table → Table → Client → Client → Type 0) where
   -- the sides below i moved, and the others are as they were
   pub record MovesUpTo (from i : ℕ) (old new : List Table) (stages stages_new : List Stage) (above above_new : List Client) (moved : ℕ) : Type 0 where
     pub as_many : length above_new ≡ length above
     pub tables_many : length new ≡ length old
     pub below : (k : ℕ) (was now : Table) (before after : Client) → k < i → slice_get old (from + k) ≡ Some was → slice_get new (from + k) ≡ Some now
-        → slice_get above k ≡ Some before → slice_get above_new k ≡ Some after → Goes was now (client_view before) (client_view after)
+        → slice_get above k ≡ Some before → slice_get above_new k ≡ Some after → Goes was now before after
     pub rest : (k : ℕ) → i ≤ k → slice_get above_new k ≡ slice_get above k
     pub tables_rest : (k : ℕ) → i ≤ k → slice_get new (from + k) ≡ slice_get old (from + k)
-    pub counts : moved ≡ all_moves_up (map client_view above) (map client_view above_new)
+    pub counts : moved ≡ all_moves_up (map theory.client_view above) (map theory.client_view above_new)
     pub most : moved ≤ i
-    pub is_above : (place : ℕ) → IsAbove place stages (map client_view above) → IsAbove place stages_new (map client_view above_new)
-    pub among : AreAmong opening_at client_view HasClient HasTrustee new from above_new
-    pub keeps : (place : ℕ) → IsAbove place stages (map client_view above) → KeepsAbove opening_at client_view HasClient HasTrustee old new from place
+    pub is_above : (place : ℕ) → IsAbove place stages (map theory.client_view above) → IsAbove place stages_new (map theory.client_view above_new)
+    pub among : AreAmong theory new from above_new
+    pub keeps : (place : ℕ) → IsAbove place stages (map theory.client_view above) → KeepsAbove theory old new from place
 
+module _ {V O R T Table Client Owner : Type 0} (theory : Theory V O R T Table Client Owner)
+    (Goes : Table → Table → Client → Client → Type 0) (kind : Kind V O R T) (laws : TheoryLaws theory kind) where
   pub none_moved :
-      (from : ℕ) (tables : List Table) (stages : List Stage) (above : List Client) → AreAmong opening_at client_view HasClient HasTrustee tables from above
-      → MovesUpTo from 0 tables tables stages stages above above 0
+      (from : ℕ) (tables : List Table) (stages : List Stage) (above : List Client) → AreAmong theory tables from above
+      → MovesUpTo theory Goes from 0 tables tables stages stages above above 0
   none_moved from tables stages above among = record {
     as_many = refl;
     tables_many = refl;
     below = λ k was now before after lt ew en eb ea. absurd (omega arith);
     rest = λ k le. refl;
     tables_rest = λ k le. refl;
-    counts = sym (all_stay (map client_view above));
+    counts = sym (all_stay (map theory.client_view above));
     most = omega arith;
     is_above = λ place is. is;
     among = among;
-    keeps = λ place is. record {
-      as_many = refl;
-      lower = λ t lt. refl;
-      openings = λ t was becomes ew en. ap (λ x. opening_at x) (same_element tables t was becomes ew en);
-      clients = λ t was becomes ew en other ne has. subst (λ x. HasClient x other) (sym (same_element tables t was becomes ew en)) has;
-      trustees = λ t was becomes ew en other has. subst (λ x. HasTrustee x other) (sym (same_element tables t was becomes ew en)) has;
-    };
+    keeps = λ place is. keeps_none theory kind laws tables from place;
   }
 
   module _
       (from i : ℕ) (old mid : List Table) (stages stages_mid : List Stage) (above above_mid : List Client) (moved : ℕ)
-      (done : MovesUpTo from i old mid stages stages_mid above above_mid moved)
+      (done : MovesUpTo theory Goes from i old mid stages stages_mid above above_mid moved)
       (was becomes : Table) (before after : Client) (stage : Stage) (answer : Bool)
       (of_table : slice_get mid (from + i) ≡ Some was) (of_side : slice_get above_mid i ≡ Some before)
-      (moves : MovesUp opening_at client_view HasClient HasTrustee Goes was becomes before after stage answer) where
+      (moves : MovesUp theory Goes was becomes before after stage answer) where
     abbrev views : List (ClientView V O R T)
-    views = map client_view above
+    views = map theory.client_view above
 
     abbrev tables_after : List Table
     tables_after = slice_set mid (from + i) becomes
@@ -115,106 +113,84 @@ module _ {V O R T Table Client Owner : Type 0} (opening_at : Table → State V O
         (k : ℕ) (x y : Table) (b a : Client) → k < i + 1 → slice_get old (from + k) ≡ Some x
         → ((from + k ≡ from + i) × (y ≡ becomes)) ⊎ ((from + k ≢ from + i) × (slice_get mid (from + k) ≡ Some y))
         → slice_get above k ≡ Some b → ((k ≡ i) × (a ≡ after)) ⊎ ((k ≢ i) × (slice_get above_mid k ≡ Some a))
-        → Goes x y (client_view b) (client_view a)
+        → Goes x y b a
     below_at k x y b a lt ex (inl t) eb (inl h) =
         let same : b ≡ before = same_element above i before b first_of_side (subst (λ n. slice_get above n ≡ Some b) h.0 eb) in
         let table : x ≡ was = same_element old (from + i) was x first_of_table (subst (λ n. slice_get old n ≡ Some x) t.0 ex) in
-        subst (λ z. Goes z y (client_view b) (client_view a)) (sym table)
-        (subst (λ z. Goes was z (client_view b) (client_view a)) (sym t.1)
-        (subst (λ z. Goes was becomes (client_view z) (client_view a)) (sym same)
-        (subst (λ z. Goes was becomes (client_view before) (client_view z)) (sym h.1) moves.goes)))
+        subst (λ z. Goes z y b a) (sym table)
+        (subst (λ z. Goes was z b a) (sym t.1)
+        (subst (λ z. Goes was becomes z a) (sym same)
+        (subst (λ z. Goes was becomes before z) (sym h.1) moves.goes)))
     below_at k x y b a lt ex (inl t) eb (inr h) = let e : from + k ≡ from + i = t.0 in absurd (h.0 (omega arith))
     below_at k x y b a lt ex (inr t) eb (inl h) = absurd (t.0 (ap (λ n. from + n) h.0))
     below_at k x y b a lt ex (inr t) eb (inr h) = let ne : k ≢ i = h.0 in done.below k x y b a (omega arith) ex t.1 eb h.1
 
-    counts_at : moved + cond answer 1 0 ≡ all_moves_up views (map client_view above_after)
+    counts_at : moved + cond answer 1 0 ≡ all_moves_up views (map theory.client_view above_after)
     counts_at =
         ap (λ n. n + cond answer 1 0) done.counts
-        ∙ ap (λ n. all_moves_up views (map client_view above_mid) + n) (sym moves.moved)
-        ∙ sym (one_moves views (map client_view above_mid) i (client_view before) (client_view after) (mapped client_view above i before first_of_side)
-        (mapped client_view above_mid i before of_side))
-        ∙ ap (λ l. all_moves_up views l) (sym (map-set client_view above_mid i after))
+        ∙ ap (λ n. all_moves_up views (map theory.client_view above_mid) + n) (sym moves.moved)
+        ∙ sym (one_moves views (map theory.client_view above_mid) i (theory.client_view before) (theory.client_view after) (mapped theory.client_view above i before first_of_side)
+        (mapped theory.client_view above_mid i before of_side))
+        ∙ ap (λ l. all_moves_up views l) (sym (map-set theory.client_view above_mid i after))
 
     module _ (place : ℕ) (is : IsAbove place stages views) where
-      mid_above : IsAbove place stages_mid (map client_view above_mid)
+      mid_above : IsAbove place stages_mid (map theory.client_view above_mid)
       mid_above = done.is_above place is
 
-      was_placed : (client_view before).place ≡ place
-      was_placed = mid_above.places i (client_view before) (mapped client_view above_mid i before of_side)
+      was_placed : (theory.client_view before).place ≡ place
+      was_placed = mid_above.places i (theory.client_view before) (mapped theory.client_view above_mid i before of_side)
 
       places_at :
-          (k : ℕ) (a : Client) → ((k ≡ i) × (a ≡ after)) ⊎ ((k ≢ i) × (slice_get above_mid k ≡ Some a)) → (client_view a).place ≡ place
-      places_at k a (inl h) = ap (λ x. (client_view x).place) h.1 ∙ moves.place ∙ was_placed
-      places_at k a (inr h) = mid_above.places k (client_view a) (mapped client_view above_mid k a h.1)
+          (k : ℕ) (a : Client) → ((k ≡ i) × (a ≡ after)) ⊎ ((k ≢ i) × (slice_get above_mid k ≡ Some a)) → (theory.client_view a).place ≡ place
+      places_at k a (inl h) = ap (λ x. (theory.client_view x).place) h.1 ∙ moves.place ∙ was_placed
+      places_at k a (inr h) = mid_above.places k (theory.client_view a) (mapped theory.client_view above_mid k a h.1)
+
+      asked_at :
+          (k : ℕ) (a : Client) → ((k ≡ i) × (a ≡ after)) ⊎ ((k ≢ i) × (slice_get above_mid k ≡ Some a))
+          → AllByRecursion IsOfTrustee (theory.client_view a).sent
+      asked_at k a (inl h) = subst (λ x. AllByRecursion IsOfTrustee (theory.client_view x).sent) (sym h.1) moves.asked
+      asked_at k a (inr h) = mid_above.asked k (theory.client_view a) (mapped theory.client_view above_mid k a h.1)
 
       stages_at :
           (k : ℕ) (s : Stage) (a : Client) → ((k ≡ i) × (s ≡ stage)) ⊎ ((k ≢ i) × (slice_get stages_mid k ≡ Some s))
-          → ((k ≡ i) × (a ≡ after)) ⊎ ((k ≢ i) × (slice_get above_mid k ≡ Some a)) → IsAt s (client_view a)
+          → ((k ≡ i) × (a ≡ after)) ⊎ ((k ≢ i) × (slice_get above_mid k ≡ Some a)) → IsAt s (theory.client_view a)
       stages_at k s a (inl h) (inl m) =
-          subst (λ x. IsAt x (client_view a)) (sym h.1) (subst (λ x. IsAt stage (client_view x)) (sym m.1) moves.at)
+          subst (λ x. IsAt x (theory.client_view a)) (sym h.1) (subst (λ x. IsAt stage (theory.client_view x)) (sym m.1) moves.at)
       stages_at k s a (inl h) (inr m) = absurd (m.0 h.0)
       stages_at k s a (inr h) (inl m) = absurd (h.0 m.0)
-      stages_at k s a (inr h) (inr m) = mid_above.stages k s (client_view a) h.1 (mapped client_view above_mid k a m.1)
+      stages_at k s a (inr h) (inr m) = mid_above.stages k s (theory.client_view a) h.1 (mapped theory.client_view above_mid k a m.1)
 
-      above_at : IsAbove place stages_after (map client_view above_after)
+      above_at : IsAbove place stages_after (map theory.client_view above_after)
       above_at = record {
         as_many =
-            length-set stages_mid i stage ∙ mid_above.as_many ∙ length-map above_mid client_view
-            ∙ sym (length-map above_after client_view ∙ length-set above_mid i after);
+            length-set stages_mid i stage ∙ mid_above.as_many ∙ length-map above_mid theory.client_view
+            ∙ sym (length-map above_after theory.client_view ∙ length-set above_mid i after);
         places = λ k up e.
-            let (a, ea, is_a) = mapped_from client_view above_after k up e in
+            let (a, ea, is_a) = mapped_from theory.client_view above_after k up e in
             ap (λ v. v.place) is_a ∙ places_at k a (set_cases above_mid i k after a ea);
+        asked = λ k up e.
+            let (a, ea, is_a) = mapped_from theory.client_view above_after k up e in
+            subst (λ v. AllByRecursion IsOfTrustee v.sent) (sym is_a) (asked_at k a (set_cases above_mid i k after a ea));
         stages = λ k s up es e.
-            let (a, ea, is_a) = mapped_from client_view above_after k up e in
+            let (a, ea, is_a) = mapped_from theory.client_view above_after k up e in
             subst (λ v. IsAt s v) (sym is_a) (stages_at k s a (set_cases stages_mid i k stage s es) (set_cases above_mid i k after a ea));
       }
 
-      mid_keeps : KeepsAbove opening_at client_view HasClient HasTrustee old mid from place
-      mid_keeps = done.keeps place is
-
-      openings_at :
-          (t : ℕ) (x y : Table) → slice_get old t ≡ Some x → ((t ≡ from + i) × (y ≡ becomes)) ⊎ ((t ≢ from + i) × (slice_get mid t ≡ Some y))
-          → opening_at y ≡ opening_at x
-      openings_at t x y ex (inl h) =
-          ap (λ z. opening_at z) h.1 ∙ moves.opening ∙ mid_keeps.openings t x was ex (subst (λ n. slice_get mid n ≡ Some was) (sym h.0) of_table)
-      openings_at t x y ex (inr h) = mid_keeps.openings t x y ex h.1
-
-      clients_at :
-          (t : ℕ) (x y : Table) → slice_get old t ≡ Some x → ((t ≡ from + i) × (y ≡ becomes)) ⊎ ((t ≢ from + i) × (slice_get mid t ≡ Some y))
-          → (other : Client) → (client_view other).place ≢ place → HasClient x other → HasClient y other
-      clients_at t x y ex (inl h) other ne has =
-          subst (λ z. HasClient z other) (sym h.1)
-          (moves.clients other (λ e. ne (e ∙ was_placed))
-          (mid_keeps.clients t x was ex (subst (λ n. slice_get mid n ≡ Some was) (sym h.0) of_table) other ne has))
-      clients_at t x y ex (inr h) other ne has = mid_keeps.clients t x y ex h.1 other ne has
-
-      trustees_at :
-          (t : ℕ) (x y : Table) → slice_get old t ≡ Some x → ((t ≡ from + i) × (y ≡ becomes)) ⊎ ((t ≢ from + i) × (slice_get mid t ≡ Some y))
-          → (other : Owner) → HasTrustee x other → HasTrustee y other
-      trustees_at t x y ex (inl h) other has =
-          subst (λ z. HasTrustee z other) (sym h.1)
-          (moves.trustees other (mid_keeps.trustees t x was ex (subst (λ n. slice_get mid n ≡ Some was) (sym h.0) of_table) other has))
-      trustees_at t x y ex (inr h) other has = mid_keeps.trustees t x y ex h.1 other has
-
-      keeps_at : KeepsAbove opening_at client_view HasClient HasTrustee old tables_after from place
-      keeps_at = record {
-        as_many = length-set mid (from + i) becomes ∙ mid_keeps.as_many;
-        lower = λ t lt. set_other mid (from + i) t becomes (λ e. absurd (omega arith)) ∙ mid_keeps.lower t lt;
-        openings = λ t x y ex ey. openings_at t x y ex (set_cases mid (from + i) t becomes y ey);
-        clients = λ t x y ex ey. clients_at t x y ex (set_cases mid (from + i) t becomes y ey);
-        trustees = λ t x y ex ey. trustees_at t x y ex (set_cases mid (from + i) t becomes y ey);
-      }
+      keeps_at : KeepsAbove theory old tables_after from place
+      keeps_at =
+          keeps_on theory kind laws old mid tables_after from place (done.keeps place is)
+          (keeps_set theory kind laws mid from i place was becomes before after of_table moves.keeps was_placed)
 
     among_at :
         (k : ℕ) (y : Table) (a : Client) → ((from + k ≡ from + i) × (y ≡ becomes)) ⊎ ((from + k ≢ from + i) × (slice_get mid (from + k) ≡ Some y))
-        → ((k ≡ i) × (a ≡ after)) ⊎ ((k ≢ i) × (slice_get above_mid k ≡ Some a)) → HasClient y a
+        → ((k ≡ i) × (a ≡ after)) ⊎ ((k ≢ i) × (slice_get above_mid k ≡ Some a)) → theory.HasClient y a
     among_at k y a (inl h) (inl m) =
-        subst (λ z. HasClient z a) (sym h.1) (subst (λ x. HasClient becomes x) (sym m.1) moves.mine)
+        subst (λ z. theory.HasClient z a) (sym h.1) (subst (λ x. theory.HasClient becomes x) (sym m.1) moves.keeps.mine)
     among_at k y a (inl h) (inr m) = let e : from + k ≡ from + i = h.0 in absurd (m.0 (omega arith))
     among_at k y a (inr h) (inl m) = absurd (h.0 (ap (λ n. from + n) m.0))
     among_at k y a (inr h) (inr m) = done.among.mine k y a h.1 m.1
 
-    one_more_moved : MovesUpTo from (i + 1) old tables_after stages stages_after above above_after (moved + cond answer 1 0)
+    one_more_moved : MovesUpTo theory Goes from (i + 1) old tables_after stages stages_after above above_after (moved + cond answer 1 0)
     one_more_moved = record {
       as_many = length-set above_mid i after ∙ done.as_many;
       tables_many = length-set mid (from + i) becomes ∙ done.tables_many;
@@ -238,58 +214,19 @@ module _ {V O R T Table Client Owner : Type 0} (opening_at : Table → State V O
   pub next_moved :
       (from i : ℕ) (old mid new : List Table) (stages stages_mid stages_new : List Stage) (above above_mid above_new : List Client) (moved more : ℕ)
       (answer : Bool)
-      → MovesUpTo from i old mid stages stages_mid above above_mid moved
-      → MovesAt opening_at client_view HasClient HasTrustee Goes (from + i) i mid new stages_mid stages_new above_mid above_new answer
-      → more ≡ moved + cond answer 1 0 → MovesUpTo from (i + 1) old new stages stages_new above above_new more
+      → MovesUpTo theory Goes from i old mid stages stages_mid above above_mid moved
+      → MovesAt theory Goes (from + i) i mid new stages_mid stages_new above_mid above_new answer
+      → more ≡ moved + cond answer 1 0 → MovesUpTo theory Goes from (i + 1) old new stages stages_new above above_new more
   next_moved from i old mid new stages stages_mid stages_new above above_mid above_new moved more answer done m is =
       let at = one_more_moved from i old mid stages stages_mid above above_mid moved done m.was m.becomes m.before m.after m.stage answer m.of_table m.of_side m.moves in
-      subst (λ n. MovesUpTo from (i + 1) old new stages stages_new above above_new n) (sym is)
-      (subst (λ l. MovesUpTo from (i + 1) old l stages stages_new above above_new (moved + cond answer 1 0)) (sym m.tables)
-      (subst (λ l. MovesUpTo from (i + 1) old (slice_set mid (from + i) m.becomes) stages l above above_new (moved + cond answer 1 0)) (sym m.stages_are)
-      (subst (λ l. MovesUpTo from (i + 1) old (slice_set mid (from + i) m.becomes) stages (slice_set stages_mid i m.stage) above l (moved + cond answer 1 0)) (sym m.sides) at)))
+      subst (λ n. MovesUpTo theory Goes from (i + 1) old new stages stages_new above above_new n) (sym is)
+      (subst (λ l. MovesUpTo theory Goes from (i + 1) old l stages stages_new above above_new (moved + cond answer 1 0)) (sym m.tables)
+      (subst (λ l. MovesUpTo theory Goes from (i + 1) old (slice_set mid (from + i) m.becomes) stages l above above_new (moved + cond answer 1 0)) (sym m.stages_are)
+      (subst (λ l. MovesUpTo theory Goes from (i + 1) old (slice_set mid (from + i) m.becomes) stages (slice_set stages_mid i m.stage) above l (moved + cond answer 1 0)) (sym m.sides) at)))
 
   -- each side moved once all have
   pub all_moved :
       (from i : ℕ) (old new : List Table) (stages stages_new : List Stage) (above above_new : List Client) (moved : ℕ)
-      → MovesUpTo from i old new stages stages_new above above_new moved → i ≡ length above → EachAt client_view Goes from old new above above_new
+      → MovesUpTo theory Goes from i old new stages stages_new above above_new moved → i ≡ length above → EachAt Goes from old new above above_new
   all_moved from i old new stages stages_new above above_new moved done all = λ k was now before after ew en eb ea.
       done.below k was now before after (subst (λ n. k < n) (sym all) (slice_get_within above k before eb)) ew en eb ea
-
-  module _ (Sees : ClientView V O R T → ClientView V O R T → Type 0)
-      (sees : (was now : Table) (before after : ClientView V O R T) → Goes was now before after → Sees before after) where
-    each_sees :
-        (olds news : List Client) → length news ≡ length olds
-        → ((k : ℕ) (before after : Client) → slice_get olds k ≡ Some before → slice_get news k ≡ Some after
-        → Sees (client_view before) (client_view after))
-        → Each Sees (map client_view olds) (map client_view news)
-    each_sees [] [] e goes = tt
-    each_sees [] (n ∷ news) e goes = absurd (omega (arith, e))
-    each_sees (o ∷ olds) [] e goes = absurd (omega (arith, e))
-    each_sees (o ∷ olds) (n ∷ news) e goes = (goes 0 o n refl refl, each_sees olds news (omega (arith, e)) (λ k. goes (suc k)))
-
-    -- so what holds of the views of a side that moved holds of those of each
-    pub all_seen :
-        (from i : ℕ) (old new : List Table) (stages stages_new : List Stage) (above above_new : List Client) (moved : ℕ)
-        → MovesUpTo from i old new stages stages_new above above_new moved → i ≡ length above
-        → Each Sees (map client_view above) (map client_view above_new)
-    all_seen from i old new stages stages_new above above_new moved done all =
-        each_sees above above_new done.as_many
-        (λ k before after eb ea.
-        let within : k < length above = slice_get_within above k before eb in
-        let sides : length above_new ≡ length above = done.as_many in
-        let among : from + length above_new ≡ length new = done.among.as_many in
-        let many : length new ≡ length old = done.tables_many in
-        let (was, ew) = element_at old (from + k) (omega (arith, within, sides, among, many)) in
-        let (now, en) = element_at new (from + k) (omega (arith, within, sides, among)) in
-        sees was now (client_view before) (client_view after)
-        (all_moved from i old new stages stages_new above above_new moved done all k was now before after ew en eb ea))
-
-module _ {V O R T Table : Type 0} (HasMoved : Move V O R T → Table → Table → Type 0) where
-  -- what is said of the tables too says what is said of the views
-  pub looks_seen : (was now : Table) (old new : ClientView V O R T) → LooksUpAt HasMoved was now old new → LooksUp old new
-  looks_seen was now old new looks = let (found, collects, moved) = looks in (found, collects)
-
-  pub says_seen :
-      (all : Type 0) (was now : Table) (old new : ClientView V O R T) → SaysByeAt HasMoved all was now old new → SaysBye all old new
-  says_seen all was now old new (inl said) = let (holds, none, publishes, moved) = said in inl (holds, none, publishes)
-  says_seen all was now old new (inr kept) = inr (kept.0, kept.2)

@@ -1,15 +1,17 @@
 -- What a turn leaves of a trustee's sides above, from what its two parts leave.
-use Rattle.std.proofs.Common.{◌≡◌, ℕ, ◌+◌, ◌<◌, ◌≤◌, ◌↔◌, List, [], ◌∷◌, length, slice_index_or, inl, inr, refl, sym, ◌∙◌, ap, subst, arith, length-append}
-use Rattle.std.specs.Prelude.{All, slice_get}
+use Rattle.std.proofs.Common.{◌≡◌, ℕ, suc, ◌+◌, ◌<◌, ◌≤◌, ◌↔◌, true, false, List, [], ◌∷◌, length, map, slice_index_or, inl, inr, refl, sym, ◌∙◌, ap, subst, arith, length-append}
+use Rattle.std.specs.Prelude.{All, IsSome, slice_get}
+use Rattle.std.specs.declared.option.Option.{Option}
 use Rattle.std.specs.declared.option.Option.TheVariants.{None, Some}
-use Rattle.std.proofs.lemmas.Option.{slice_get-get_or, get_or_from_slice_get}
-use Rattle.tm_batch.specs.declared.message.Request.{Request}
+use Rattle.std.proofs.lemmas.Option.{slice_get-get_or, get_or_from_slice_get, slice_get_within}
+use Rattle.tm_pair.specs.Views.{BatchView, ClientView}
 use Rattle.tm_batch.specs.declared.message.Request.TheVariants.{Bye}
-use Rattle.tm_pair.specs.Views.{ClientView}
-use Rattle.tm_pair.specs.Calls.{Collects}
+use Rattle.tm_pair.specs.Calls.{Publishes, Collects}
+use Rattle.tm_pair.specs.Theory.{Theory}
 use Rattle.tm_pair.specs.declared.table.Collected.{Collected}
 use Rattle.tm_pair.specs.declared.table.Collected.TheVariants.{Answers, Pending, Idle}
-use Rattle.tm_trustee.specs.Above.{IsAt, LooksUp, SaysBye, GoesUp, Each, moves_up, all_moves_up, IsAbove}
+use Rattle.tm_trustee.specs.Above.{one_if, published, IsAt, LooksUp, SaysBye, GoesUp, LooksUpAt, SaysByeAt, Each, moves_up, all_moves_up, IsAbove}
+use Rattle.tm_trustee.specs.AboveAt.{EachAt}
 use Rattle.tm_trustee.specs.Turn.{Tells}
 use Rattle.tm_trustee.specs.declared.stage.Stage.{Stage}
 use Rattle.tm_trustee.specs.declared.stage.Stage.TheVariants.{Before, Out, Over}
@@ -17,34 +19,41 @@ use Rattle.tm_trustee.specs.declared.served.Served.{Served}
 use Rattle.tm_trustee.specs.declared.served.Served.TheVariants.{Moved, Quiet, Ended}
 use Rattle.tm_trustee.proofs.Elements.{element_at}
 
+one_at_most : {X : Type 0} (o : Option X) → one_if o ≤ 1
+one_at_most None = omega arith
+one_at_most (Some x) = omega arith
+
 module _ {V O R T : Type 0} where
-  -- what a side sent and got only grows
+  -- what a side published and got only grows
   pub record Grows (old new : ClientView V O R T) : Type 0 where
-    pub sent : length old.sent ≤ length new.sent
+    pub published : published old ≤ published new
     pub got : length old.got ≤ length new.got
 
   collected_grows : (found : Collected V O R T) (old new : ClientView V O R T) → Collects old new found → Grows old new
-  collected_grows Idle old new idle = subst (λ view. Grows old view) (sym idle.kept) (record { sent = omega arith; got = omega arith })
+  collected_grows Idle old new idle = subst (λ view. Grows old view) (sym idle.kept) (record { published = omega arith; got = omega arith })
   collected_grows Pending old new pending =
-      let sent : length new.sent ≡ length old.sent = ap (λ (l : List (Request V O R T)). length l) pending.sent in
+      let (batch, before, after) = pending.out in
       let got : length new.got ≡ length old.got = ap (λ l. length l) pending.got in
-      record { sent = omega (arith, sent); got = omega (arith, got) }
+      let first = ap one_if before in
+      let then = ap one_if after in
+      record { published = omega (arith, got, first, then); got = omega (arith, got) }
   collected_grows (Answers a) old new gets =
-      let sent : length new.sent ≡ length old.sent = ap (λ (l : List (Request V O R T)). length l) gets.sent in
+      let (b, room, are) = gets.answers in
       let got : length new.got ≡ length old.got + length (a ∷ []) = ap (λ l. length l) gets.got ∙ length-append old.got (a ∷ []) in
-      record { sent = omega (arith, sent); got = omega (arith, got) }
+      let first = ap one_if are.out in
+      let then = ap one_if gets.out in
+      record { published = omega (arith, got, first, then); got = omega (arith, got) }
 
   bye_grows : (all : Type 0) (old new : ClientView V O R T) → SaysBye all old new → Grows old new
   bye_grows all old new (inl said) =
-      let bye : List (Request V O R T) = Bye ∷ [] in
-      let sent : length new.sent ≡ length old.sent + length bye =
-      ap (λ (l : List (Request V O R T)). length l) said.2.sent ∙ length-append old.sent bye in
       let got : length new.got ≡ length old.got = ap (λ l. length l) said.2.got in
-      record { sent = omega (arith, sent); got = omega (arith, got) }
-  bye_grows all old new (inr kept) = subst (λ view. Grows old view) (sym kept.0) (record { sent = omega arith; got = omega arith })
+      let first = one_at_most old.out in
+      let then = ap one_if said.2.out in
+      record { published = omega (arith, got, first, then); got = omega (arith, got) }
+  bye_grows all old new (inr kept) = subst (λ view. Grows old view) (sym kept.0) (record { published = omega arith; got = omega arith })
 
   moves_join : (old mid new : ClientView V O R T) → Grows old mid → Grows mid new → moves_up old mid + moves_up mid new ≡ moves_up old new
-  moves_join old mid new first then = omega (arith, first.sent, first.got, then.sent, then.got)
+  moves_join old mid new first then = omega (arith, first.published, first.got, then.published, then.got)
 
   -- both parts together, at each side
   pub goes_up :
@@ -87,11 +96,6 @@ module _ {V O R T : Type 0} where
   all_say_as a b to from (old ∷ olds) [] says = absurd says
   all_say_as a b to from (old ∷ olds) (new ∷ news) says = (says_as a b to from old new says.0, all_say_as a b to from olds news says.1)
 
-  -- nothing is said where the condition fails
-  pub none_says : (all : Type 0) → (¬ all) → (views : List (ClientView V O R T)) → Each (SaysBye all) views views
-  none_says all fails [] = tt
-  none_says all fails (view ∷ views) = (inr (refl, inr fails), none_says all fails views)
-
   pub none_moves : (views : List (ClientView V O R T)) → all_moves_up views views ≡ 0
   none_moves [] = refl
   none_moves (view ∷ views) =
@@ -99,8 +103,8 @@ module _ {V O R T : Type 0} where
 
   -- a side that is over is noted as such
   only_over : (stage : Stage) (view : ClientView V O R T) → IsAt stage view → IsAt Over view → stage ≡ Over
-  only_over Before view at over = let empty : List (Request V O R T) = [] in let e : empty ≡ Bye ∷ [] = sym at.0 ∙ over.0 in absurd cc
-  only_over Out view at over = let e : Some 0 ≡ None = sym at.2 ∙ over.1 in absurd cc
+  only_over Before view at over = let e : false ≡ true = sym at.0 ∙ over.0 in absurd cc
+  only_over Out view at over = let none : IsSome {T = BatchView V O R T} None = subst (λ (o : Option (BatchView V O R T)). IsSome o) over.1 at.1 in absurd cc
   only_over Over view at over = refl
 
   pub over_exactly :
@@ -125,3 +129,54 @@ pub tells_as : (served : Served) (a b : Type 0) (moved : ℕ) → (a → b) → 
 tells_as Ended a b moved to from tells = to tells
 tells_as Quiet a b moved to from tells = (λ holds. tells.0 (from holds), tells.1)
 tells_as (Moved n) a b moved to from tells = (λ holds. tells.0 (from holds), tells.1, tells.2)
+
+module _ {V O R T Table Client Owner : Type 0} (theory : Theory V O R T Table Client Owner) where
+  module _ (Goes : Table → Table → Client → Client → Type 0) (Sees : ClientView V O R T → ClientView V O R T → Type 0)
+      (sees : (was now : Table) (before after : Client) → Goes was now before after → Sees (theory.client_view before) (theory.client_view after)) where
+    each_sees :
+        (olds news : List Client) → length news ≡ length olds
+        → ((k : ℕ) (before after : Client) → slice_get olds k ≡ Some before → slice_get news k ≡ Some after
+        → Sees (theory.client_view before) (theory.client_view after))
+        → Each Sees (map theory.client_view olds) (map theory.client_view news)
+    each_sees [] [] e goes = tt
+    each_sees [] (n ∷ news) e goes = absurd (omega (arith, e))
+    each_sees (o ∷ olds) [] e goes = absurd (omega (arith, e))
+    each_sees (o ∷ olds) (n ∷ news) e goes = (goes 0 o n refl refl, each_sees olds news (omega (arith, e)) (λ k. goes (suc k)))
+
+    -- what holds of the views of a side that went on holds of those of each that did
+    all_seen :
+        (from : ℕ) (old new : List Table) (above above_new : List Client) → length above_new ≡ length above → length new ≡ length old
+        → from + length above ≡ length old → EachAt Goes from old new above above_new
+        → Each Sees (map theory.client_view above) (map theory.client_view above_new)
+    all_seen from old new above above_new sides many among goes =
+        each_sees above above_new sides
+        (λ k before after eb ea.
+        let within = slice_get_within above k before eb in
+        let (was, ew) = element_at old (from + k) (omega (arith, within, among)) in
+        let (now, en) = element_at new (from + k) (omega (arith, within, many, among)) in
+        sees was now before after (goes k was now before after ew en eb ea))
+
+  -- what is said of the tables too says what is said of the views
+  pub looks_seen :
+      (from : ℕ) (old new : List Table) (above above_new : List Client) → length above_new ≡ length above → length new ≡ length old
+      → from + length above ≡ length old → EachAt (LooksUpAt theory) from old new above above_new
+      → Each LooksUp (map theory.client_view above) (map theory.client_view above_new)
+  looks_seen = all_seen (LooksUpAt theory) LooksUp (λ was now before after looks. (looks.0, looks.1))
+
+  says_one : (all : Type 0) (was now : Table) (old new : Client) → SaysByeAt theory all was now old new → SaysBye all (theory.client_view old) (theory.client_view new)
+  says_one all was now old new (inl said) =
+      let (holds, unsaid, published_it) = said in
+      let (batch, is, room, publishes, did, keeps) = published_it in
+      inl (
+        holds,
+        unsaid,
+        subst (λ n. Publishes (Bye ∷ []) n (theory.client_view old) (theory.client_view new)) room
+            (subst (λ b. Publishes b batch.room (theory.client_view old) (theory.client_view new)) is publishes),
+      )
+  says_one all was now old new (inr kept) = inr (ap theory.client_view kept.0, kept.2)
+
+  pub says_seen :
+      (all : Type 0) (from : ℕ) (old new : List Table) (above above_new : List Client) → length above_new ≡ length above → length new ≡ length old
+      → from + length above ≡ length old → EachAt (SaysByeAt theory all) from old new above above_new
+      → Each (SaysBye all) (map theory.client_view above) (map theory.client_view above_new)
+  says_seen all = all_seen (SaysByeAt theory all) (SaysBye all) (says_one all)

@@ -1,49 +1,44 @@
 -- What a turn did to the tables above, from what its two parts did.
-use Rattle.std.proofs.Common.{◌≡◌, ◌≢◌, ℕ, ◌+◌, List, length, inl, inr, ◌∙◌, ap, arith}
+use Rattle.std.proofs.Common.{◌≡◌, ◌≢◌, ℕ, ◌+◌, List, length, inl, inr, ◌∙◌, arith}
 use Rattle.std.specs.Prelude.{slice_get}
 use Rattle.std.specs.declared.option.Option.TheVariants.{Some}
-use Rattle.tm_pair.specs.Views.{ClientView}
-use Rattle.tm_pair.specs.declared.moves.Move.{Move}
+use Rattle.tm_pair.specs.Theory.{Theory}
 use Rattle.tm_trustee.specs.Above.{LooksUpAt, SaysByeAt, GoesUpAt}
 use Rattle.tm_trustee.specs.AboveAt.{EachAt}
 use Rattle.tm_trustee.proofs.Elements.{there_too, same_element}
 
-module _ {V O R T Table Client : Type 0} (HasMoved : Move V O R T → Table → Table → Type 0) (client_view : Client → ClientView V O R T) where
+module _ {V O R T Table Client Owner : Type 0} (theory : Theory V O R T Table Client Owner) where
   -- where one condition stands for another
   says_as_at :
-      (a b : Type 0) → (a → b) → (b → a) → (was now : Table) (old new : ClientView V O R T)
-      → SaysByeAt HasMoved a was now old new → SaysByeAt HasMoved b was now old new
-  says_as_at a b to from was now old new (inl said) = inl (to said.0, said.1, said.2, said.3)
+      (a b : Type 0) → (a → b) → (b → a) → (was now : Table) (old new : Client)
+      → SaysByeAt theory a was now old new → SaysByeAt theory b was now old new
+  says_as_at a b to from was now old new (inl said) = inl (to said.0, said.1, said.2)
   says_as_at a b to from was now old new (inr (same, kept, inl said)) = inr (same, kept, inl said)
   says_as_at a b to from was now old new (inr (same, kept, inr fails)) = inr (same, kept, inr (λ holds. fails (from holds)))
 
   pub all_say_at :
       (a b : Type 0) → (a → b) → (b → a) → (from : ℕ) (old new : List Table) (olds news : List Client)
-      → EachAt client_view (SaysByeAt HasMoved a) from old new olds news → EachAt client_view (SaysByeAt HasMoved b) from old new olds news
+      → EachAt (SaysByeAt theory a) from old new olds news → EachAt (SaysByeAt theory b) from old new olds news
   all_say_at a b to back from old new olds news says = λ i was now before after ew en eb ea.
-      says_as_at a b to back was now (client_view before) (client_view after) (says i was now before after ew en eb ea)
+      says_as_at a b to back was now before after (says i was now before after ew en eb ea)
 
   -- nothing is said where the condition fails
   pub none_say_at :
       (all : Type 0) → (¬ all) → (from : ℕ) (tables : List Table) (sides : List Client)
-      → EachAt client_view (SaysByeAt HasMoved all) from tables tables sides sides
+      → EachAt (SaysByeAt theory all) from tables tables sides sides
   none_say_at all fails from tables sides = λ i was now before after ew en eb ea.
-      let same : after ≡ before = same_element sides i before after eb ea in
-      inr (ap client_view same, same_element tables (from + i) was now ew en, inr fails)
+      inr (same_element sides i before after eb ea, same_element tables (from + i) was now ew en, inr fails)
 
   -- both parts together, between which the tables above stayed
   pub goes_up_at :
       (all : Type 0) (number : ℕ) (a b c d : List Table) (olds mids news : List Client) → length b ≡ length a → length mids ≡ length olds
       → ((t : ℕ) → t ≢ number → slice_get c t ≡ slice_get b t)
-      → EachAt client_view (LooksUpAt HasMoved) (number + 1) a b olds mids
-      → EachAt client_view (SaysByeAt HasMoved all) (number + 1) c d mids news
-      → EachAt client_view (GoesUpAt HasMoved all) (number + 1) a d olds news
+      → EachAt (LooksUpAt theory) (number + 1) a b olds mids
+      → EachAt (SaysByeAt theory all) (number + 1) c d mids news
+      → EachAt (GoesUpAt theory all) (number + 1) a d olds news
   goes_up_at all number a b c d olds mids news many sides others looks says = λ i was now before after ew en eb ea.
       let (between, is_between) = there_too a b (number + 1 + i) was many ew in
       let (mid, is_mid) = there_too olds mids i before sides eb in
-      let kept : slice_get c (number + 1 + i) ≡ Some between = others (number + 1 + i) (λ e. absurd (omega (arith, e))) ∙ is_between in (
-        between,
-        client_view mid,
-        looks i was between before mid ew is_between eb is_mid,
-        says i between now mid after kept en is_mid ea,
-      )
+      let kept : slice_get c (number + 1 + i) ≡ Some between = others (number + 1 + i) (λ e. absurd (omega (arith, e))) ∙ is_between in
+      let looked = looks i was between before mid ew is_between eb is_mid in
+      (between, mid, looked, looked.3.mine, says i between now mid after kept en is_mid ea)

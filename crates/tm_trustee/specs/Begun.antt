@@ -1,6 +1,7 @@
 -- How a trustee begins.
-use Rattle.std.specs.Prelude.{◌≡◌, ℕ, ◌+◌, List, []}
+use Rattle.std.specs.Prelude.{◌≡◌, ℕ, ◌+◌, List, [], length}
 use Rattle.std.specs.declared.option.Option.TheVariants.{None}
+use Rattle.tm_seq.specs.Kind.{Kind}
 use Rattle.tm_batch.specs.declared.config.Config.{Config}
 use Rattle.tm_batch.specs.declared.config.First.{First}
 use Rattle.tm_batch.specs.declared.message.Name.{Name}
@@ -8,9 +9,9 @@ use Rattle.tm_model.specs.State.{State}
 use Rattle.tm_model.specs.Opening.{opening_of}
 use Rattle.tm_state.specs.Opened.{MayOpen}
 use Rattle.tm_pair.specs.Views.{ClientView, TrusteeView, hand_of}
-use Rattle.tm_trustee.specs.Above.{IsAt}
-use Rattle.tm_trustee.specs.Standing.{AreNested}
-use Rattle.tm_trustee.specs.declared.stage.Stage.TheVariants.{Before}
+use Rattle.tm_pair.specs.Theory.{Theory}
+use Rattle.tm_trustee.specs.Serving.{AreNested, IsServing}
+use Rattle.tm_trustee.specs.declared.trustee.Trustee.{Trustee}
 
 module _ {V O R T : Type 0} where
   -- the parts of the trustee of an opening state, by its number, a config and a whole list of the build: the objects placed on it, those
@@ -21,6 +22,17 @@ module _ {V O R T : Type 0} where
     pub nested : AreNested s.setup names
     pub sides : number + 1 + seats ≡ config.trustees
 
+-- they may be the parts of one
+abbrev pub IsBeginnable : (V O R T : Type 0) → ℕ → Config → List (First V) → List (ℕ × Name) → ℕ → Type 0
+IsBeginnable V O R T number config first names seats =
+    (s : State V O R T) × (whole : List (First V)) × MayBegin s number config whole first names seats
+
+-- whatever the whole list is, a trustee is that of its opening state, with nothing resumed
+abbrev pub HasBegun : {V O R T Table Client Owner : Type 0} → Theory V O R T Table Client Owner → Kind V O R T → ℕ → Config → List (First V) → Trustee V Table O R T Client Owner → Type 0
+HasBegun {V} {O} {R} {T} theory kind number config first t =
+    (s : State V O R T) (whole : List (First V)) → MayBegin s number config whole first t.nested.items (length t.above.items) → IsServing theory kind s t
+
+module _ {V O R T : Type 0} where
   -- its own side is as its table gave it: its log is empty, and no batch is in hand
   pub record IsNewHome (view : TrusteeView V O R T) : Type 0 where
     pub log : view.log ≡ []
@@ -29,4 +41,5 @@ module _ {V O R T : Type 0} where
   -- so is a side above: it has the place of a trustee, and sent nothing
   pub record IsNewSeat (c : ℕ) (view : ClientView V O R T) : Type 0 where
     pub place : view.place ≡ c
-    pub before : IsAt Before view
+    pub sent : view.sent ≡ []
+    pub out : view.out ≡ None

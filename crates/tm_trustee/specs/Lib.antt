@@ -1,6 +1,6 @@
 pub mod Places
 pub mod Above
-pub mod Standing
+pub mod Serving
 pub mod Tables
 pub mod Turn
 pub mod Begun

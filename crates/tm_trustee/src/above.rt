@@ -1,91 +1,90 @@
 //! A trustee's sides of the tables of greater trustees.
-ghost use Rattle.std.specs.Prelude.{◌≡◌, ◌≢◌, ℕ, ◌+◌, ◌<◌, ◌≤◌, ◌↔◌, [], ◌∷◌, length, map, IsOk, OnOk};
-ghost use Rattle.tm_batch.specs.declared.message.Request.TheVariants.{Bye};
-ghost use Rattle.tm_pair.specs.Calls.{Publishes};
-ghost use Rattle.tm_trustee.specs.Above.{IsAt, LooksUp, SaysBye, LooksUpAt, PublishesBye, SaysByeAt, moves_up, Counts, Each, all_moves_up, IsAbove};
-ghost use Rattle.tm_trustee.specs.AboveAt.{MovesAt, EachAt};
+ghost use Rattle.std.specs.Prelude.{◌≡◌, ℕ, ◌+◌, ◌<◌, ◌≤◌, ◌↔◌, [], ◌∷◌, length, map, true, false, IsOk, OnOk};
+ghost use Rattle.std.specs.List.{AllByRecursion};
+ghost use Rattle.std.specs.declared.option.Option.TheVariants.{None};
+ghost use Rattle.tm_model.specs.Holds.{has_bye};
+ghost use Rattle.tm_model.specs.Orderly.{IsOfTrustee};
+ghost use Rattle.tm_pair.specs.Theory.{KeepsSides};
+ghost use Rattle.tm_trustee.specs.Above.{IsAt, LooksUpAt, PublishesBye, SaysByeAt, all_moves_up, IsAbove};
+ghost use Rattle.tm_trustee.specs.AboveAt.{MovesUp, MovesAt, EachAt};
 ghost use Rattle.tm_trustee.specs.Tables.{AreAmong, KeepsAbove};
 
 use crate::stage::Stage;
 use tm_batch::{Batch, Request};
 use tm_pair::{Collected, FitsBatches, Held, PairTable};
 
-/// Looks for the answer to a `Bye` that is out. Whether it was collected.
-pub(crate) fn look_up<S: FitsBatches, P: PairTable<S>>(
-    table: &mut P,
-    seat: &mut P::ClientSide,
-    stage: &mut Stage,
-) -> bool
-    requires mine { P.HasClient table.old seat.old }
-    requires at { IsAt stage.old (P.client_view seat.old) }
-    ensures looks { LooksUp (P.client_view seat.old) (P.client_view seat.new) }
-    ensures looks_at { LooksUpAt P.Moved table.old table.new (P.client_view seat.old) (P.client_view seat.new) }
-    ensures at { IsAt stage.new (P.client_view seat.new) }
-    ensures place { (P.client_view seat.new).place ≡ (P.client_view seat.old).place }
-    ensures moved { Counts result (moves_up (P.client_view seat.old) (P.client_view seat.new)) }
-    ensures opening { P.opening table.new ≡ P.opening table.old }
-    ensures mine { P.HasClient table.new seat.new }
-    ensures clients { (other : P.ClientSide) → (P.client_view other).place ≢ (P.client_view seat.old).place → P.HasClient table.old other → P.HasClient table.new other }
-    ensures trustee { (other : P.TrusteeSide) → P.HasTrustee table.old other → P.HasTrustee table.new other }
-{
-    match table.collect(seat) {
-        Collected::Answers(_) => {
-            *stage = Stage::Over;
-            true
+/// What a trustee does at a side above, and at the table of that side.
+pub(crate) trait Step<S: FitsBatches, P: PairTable<S>> {
+    /// What it does.
+    ghost Goes: { P → P → P.ClientSide → P.ClientSide → Type 0 };
+
+    /// Does it. Whether a batch was moved.
+    fn go(table: &mut P, seat: &mut P::ClientSide, stage: &mut Stage) -> bool
+        requires mine { P.theory.HasClient table.old seat.old }
+        requires asked { AllByRecursion IsOfTrustee (P.theory.client_view seat.old).sent }
+        requires at { IsAt stage.old (P.theory.client_view seat.old) }
+        ensures { MovesUp P.theory Goes table.old table.new seat.old seat.new stage.new result };
+}
+
+/// Looking for the answer to a `Bye` that is out.
+pub(crate) struct Look;
+
+impl<S: FitsBatches, P: PairTable<S>> Step<S, P> for Look {
+    ghost Goes = { LooksUpAt P.theory };
+
+    fn go(table: &mut P, seat: &mut P::ClientSide, stage: &mut Stage) -> bool
+        requires mine { P.theory.HasClient table.old seat.old }
+        requires asked { AllByRecursion IsOfTrustee (P.theory.client_view seat.old).sent }
+        requires at { IsAt stage.old (P.theory.client_view seat.old) }
+        ensures { MovesUp P.theory (LooksUpAt P.theory) table.old table.new seat.old seat.new stage.new result }
+    {
+        match table.collect(seat) {
+            Collected::Answers(_) => {
+                *stage = Stage::Over;
+                true
+            }
+            Collected::Pending | Collected::Idle => false,
         }
-        Collected::Pending | Collected::Idle => false,
     }
 }
 
-/// Publishes a `Bye` alone at a side where nothing was sent.
-fn send_bye<S: FitsBatches, P: PairTable<S>>(
-    table: &mut P,
-    seat: &mut P::ClientSide,
-) -> Result<(), Held<S>>
-    requires mine { P.HasClient table.old seat.old }
-    requires sent { (P.client_view seat.old).sent ≡ [] }
-    requires got { (P.client_view seat.old).got ≡ [] }
-    ensures free { IsOk result ↔ ((P.client_view seat.old).out ≡ None) }
-    ensures ok { OnOk result (Publishes (Bye ∷ []) 0 (P.client_view seat.old) (P.client_view seat.new)) }
-    ensures moved { OnOk result (PublishesBye P.Moved (P.client_view seat.old).place table.old table.new) }
-    ensures opening { P.opening table.new ≡ P.opening table.old }
-    ensures mine { P.HasClient table.new seat.new }
-    ensures clients { (other : P.ClientSide) → (P.client_view other).place ≢ (P.client_view seat.old).place → P.HasClient table.old other → P.HasClient table.new other }
-    ensures trustee { (other : P.TrusteeSide) → P.HasTrustee table.old other → P.HasTrustee table.new other }
+/// Publishes a `Bye` alone, where nothing is out and none was said.
+fn send_bye<S: FitsBatches, P: PairTable<S>>(table: &mut P, seat: &mut P::ClientSide)
+    requires mine { P.theory.HasClient table.old seat.old }
+    requires asked { AllByRecursion IsOfTrustee (P.theory.client_view seat.old).sent }
+    requires unsaid { has_bye (P.theory.client_view seat.old).sent ≡ false }
+    requires free { (P.theory.client_view seat.old).out ≡ None }
+    ensures { PublishesBye P.theory table.old table.new seat.old seat.new }
 {
     let mut batch = Batch::new(0);
+    // Neither is refused: the batch is empty, and nothing is out.
     let _ = batch.push(Request::Bye);
-    table.publish(seat, batch)
+    let _ = table.publish(seat, batch);
 }
 
-/// Says `Bye` at a side, unless that was done. Whether it was said now.
-pub(crate) fn say_bye<S: FitsBatches, P: PairTable<S>>(
-    table: &mut P,
-    seat: &mut P::ClientSide,
-    stage: &mut Stage,
-) -> bool
-    requires mine { P.HasClient table.old seat.old }
-    requires at { IsAt stage.old (P.client_view seat.old) }
-    ensures says { SaysBye (Unit {0}) (P.client_view seat.old) (P.client_view seat.new) }
-    ensures says_at { SaysByeAt P.Moved (Unit {0}) table.old table.new (P.client_view seat.old) (P.client_view seat.new) }
-    ensures at { IsAt stage.new (P.client_view seat.new) }
-    ensures place { (P.client_view seat.new).place ≡ (P.client_view seat.old).place }
-    ensures moved { Counts result (moves_up (P.client_view seat.old) (P.client_view seat.new)) }
-    ensures opening { P.opening table.new ≡ P.opening table.old }
-    ensures mine { P.HasClient table.new seat.new }
-    ensures clients { (other : P.ClientSide) → (P.client_view other).place ≢ (P.client_view seat.old).place → P.HasClient table.old other → P.HasClient table.new other }
-    ensures trustee { (other : P.TrusteeSide) → P.HasTrustee table.old other → P.HasTrustee table.new other }
-{
-    if *stage != Stage::Before {
-        return false;
+/// Saying `Bye`, unless that was done.
+pub(crate) struct SayBye;
+
+impl<S: FitsBatches, P: PairTable<S>> Step<S, P> for SayBye {
+    ghost Goes = { SaysByeAt P.theory (Unit {0}) };
+
+    fn go(table: &mut P, seat: &mut P::ClientSide, stage: &mut Stage) -> bool
+        requires mine { P.theory.HasClient table.old seat.old }
+        requires asked { AllByRecursion IsOfTrustee (P.theory.client_view seat.old).sent }
+        requires at { IsAt stage.old (P.theory.client_view seat.old) }
+        ensures { MovesUp P.theory (SaysByeAt P.theory (Unit {0})) table.old table.new seat.old seat.new stage.new result }
+    {
+        if *stage != Stage::Before {
+            return false;
+        }
+        send_bye(table, seat);
+        *stage = Stage::Out;
+        true
     }
-    let _ = send_bye(table, seat);
-    *stage = Stage::Out;
-    true
 }
 
-/// Looks for the answer at side `i` above. Whether it was collected.
-fn look_at<S: FitsBatches, P: PairTable<S>>(
+/// Takes a step at side `i` above. Whether a batch was moved.
+fn step_at<S: FitsBatches, P: PairTable<S>, W: Step<S, P>>(
     tables: &mut [P],
     from: u32,
     above: &mut Vec<P::ClientSide>,
@@ -93,83 +92,38 @@ fn look_at<S: FitsBatches, P: PairTable<S>>(
     i: usize,
 ) -> bool
     requires index { i < length above.old.items }
-    requires above { (place : ℕ) × IsAbove place stages.old.items (map P.client_view above.old.items) }
-    requires among { AreAmong P.opening P.client_view P.HasClient P.HasTrustee tables.old from above.old.items }
-    ensures { MovesAt P.opening P.client_view P.HasClient P.HasTrustee (LooksUpAt P.Moved) (from + i) i tables.old tables.new stages.old.items stages.new.items above.old.items above.new.items result }
+    requires above { (place : ℕ) × IsAbove place stages.old.items (map P.theory.client_view above.old.items) }
+    requires among { AreAmong P.theory tables.old from above.old.items }
+    ensures { MovesAt P.theory W.Goes (from + i) i tables.old tables.new stages.old.items stages.new.items above.old.items above.new.items result }
 {
-    look_up(
+    W::go(
         &mut tables[from as usize + i],
         &mut above[i],
         &mut stages[i],
     )
 }
 
-/// Looks at each side above, in order. How many answers were collected.
-pub(crate) fn looks_above<S: FitsBatches, P: PairTable<S>>(
+/// Takes a step at each side above, in order. How many batches were moved.
+pub(crate) fn go_above<S: FitsBatches, P: PairTable<S>, W: Step<S, P>>(
     tables: &mut [P],
     from: u32,
     above: &mut Vec<P::ClientSide>,
     stages: &mut Vec<Stage>,
 ) -> u64
-    requires above { (place : ℕ) × IsAbove place stages.old.items (map P.client_view above.old.items) }
-    requires among { AreAmong P.opening P.client_view P.HasClient P.HasTrustee tables.old from above.old.items }
-    ensures looks { Each LooksUp (map P.client_view above.old.items) (map P.client_view above.new.items) }
-    ensures looks_at { EachAt P.client_view (LooksUpAt P.Moved) from tables.old tables.new above.old.items above.new.items }
-    ensures above { (place : ℕ) → IsAbove place stages.old.items (map P.client_view above.old.items) → IsAbove place stages.new.items (map P.client_view above.new.items) }
-    ensures among { AreAmong P.opening P.client_view P.HasClient P.HasTrustee tables.new from above.new.items }
-    ensures moved { result ≡ all_moves_up (map P.client_view above.old.items) (map P.client_view above.new.items) }
+    requires above { (place : ℕ) × IsAbove place stages.old.items (map P.theory.client_view above.old.items) }
+    requires among { AreAmong P.theory tables.old from above.old.items }
+    ensures goes { EachAt W.Goes from tables.old tables.new above.old.items above.new.items }
+    ensures as_many { length above.new.items ≡ length above.old.items }
+    ensures above { (place : ℕ) → IsAbove place stages.old.items (map P.theory.client_view above.old.items) → IsAbove place stages.new.items (map P.theory.client_view above.new.items) }
+    ensures among { AreAmong P.theory tables.new from above.new.items }
+    ensures moved { result ≡ all_moves_up (map P.theory.client_view above.old.items) (map P.theory.client_view above.new.items) }
     ensures most { result ≤ length above.old.items }
-    ensures tables { (place : ℕ) → IsAbove place stages.old.items (map P.client_view above.old.items) → KeepsAbove P.opening P.client_view P.HasClient P.HasTrustee tables.old tables.new from place }
+    ensures tables { (place : ℕ) → IsAbove place stages.old.items (map P.theory.client_view above.old.items) → KeepsAbove P.theory tables.old tables.new from place }
 {
     let mut moved = 0;
     let seats = above.len();
     for i in 0..seats {
-        moved += u64::from(look_at(tables, from, above, stages, i));
-    }
-    moved
-}
-
-/// Says `Bye` at side `i` above, unless that was done. Whether it was said now.
-fn bye_at<S: FitsBatches, P: PairTable<S>>(
-    tables: &mut [P],
-    from: u32,
-    above: &mut Vec<P::ClientSide>,
-    stages: &mut Vec<Stage>,
-    i: usize,
-) -> bool
-    requires index { i < length above.old.items }
-    requires above { (place : ℕ) × IsAbove place stages.old.items (map P.client_view above.old.items) }
-    requires among { AreAmong P.opening P.client_view P.HasClient P.HasTrustee tables.old from above.old.items }
-    ensures { MovesAt P.opening P.client_view P.HasClient P.HasTrustee (SaysByeAt P.Moved (Unit {0})) (from + i) i tables.old tables.new stages.old.items stages.new.items above.old.items above.new.items result }
-{
-    say_bye(
-        &mut tables[from as usize + i],
-        &mut above[i],
-        &mut stages[i],
-    )
-}
-
-/// Says `Bye` at each side above where that was not done, in order. How many were said.
-pub(crate) fn byes_above<S: FitsBatches, P: PairTable<S>>(
-    tables: &mut [P],
-    from: u32,
-    above: &mut Vec<P::ClientSide>,
-    stages: &mut Vec<Stage>,
-) -> u64
-    requires above { (place : ℕ) × IsAbove place stages.old.items (map P.client_view above.old.items) }
-    requires among { AreAmong P.opening P.client_view P.HasClient P.HasTrustee tables.old from above.old.items }
-    ensures says { Each (SaysBye (Unit {0})) (map P.client_view above.old.items) (map P.client_view above.new.items) }
-    ensures says_at { EachAt P.client_view (SaysByeAt P.Moved (Unit {0})) from tables.old tables.new above.old.items above.new.items }
-    ensures above { (place : ℕ) → IsAbove place stages.old.items (map P.client_view above.old.items) → IsAbove place stages.new.items (map P.client_view above.new.items) }
-    ensures among { AreAmong P.opening P.client_view P.HasClient P.HasTrustee tables.new from above.new.items }
-    ensures moved { result ≡ all_moves_up (map P.client_view above.old.items) (map P.client_view above.new.items) }
-    ensures most { result ≤ length above.old.items }
-    ensures tables { (place : ℕ) → IsAbove place stages.old.items (map P.client_view above.old.items) → KeepsAbove P.opening P.client_view P.HasClient P.HasTrustee tables.old tables.new from place }
-{
-    let mut moved = 0;
-    let seats = above.len();
-    for i in 0..seats {
-        moved += u64::from(bye_at(tables, from, above, stages, i));
+        moved += u64::from(step_at::<S, P, W>(tables, from, above, stages, i));
     }
     moved
 }

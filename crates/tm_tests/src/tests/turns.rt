@@ -1,12 +1,12 @@
 //! A trustee from its opening to its end, turn by turn.
 ghost use Rattle.std.specs.Prelude.{◌≡◌};
-ghost use Rattle.tm_model.specs.Slots.{no_slot};
-ghost use Rattle.tm_pair.specs.Stands.{client_of};
+ghost use Rattle.tm_pair.specs.Views.{new_client};
 ghost use Rattle.tm_tests.specs.Driving.{IsSeated, IsDriven};
 
 mod asking;
 mod gate;
 mod looking;
+mod names;
 mod start;
 mod turning;
 mod upward;
@@ -32,12 +32,13 @@ fn one_trustee<P: PairTable<Counter>, G: Gate>(
     lower: &mut P::ClientSide,
     gate: &G,
 )
-    requires ready { IsDriven P.opening P.client_view P.HasClient P.HasTrustee P.trustee_view tables.old 1 trustee.old }
-    requires client { IsSeated P.opening P.client_view P.HasClient P.HasTrustee P.trustee_view tables.old 1 client.old }
-    requires client_view { P.client_view client.old ≡ client_of 0 no_slot }
-    requires lower { IsSeated P.opening P.client_view P.HasClient P.HasTrustee P.trustee_view tables.old 1 lower.old }
-    requires lower_view { P.client_view lower.old ≡ client_of 1 no_slot }
+    requires ready { IsDriven P.theory tables.old 1 trustee.old }
+    requires client { IsSeated P.theory tables.old 1 client.old }
+    requires client_view { P.theory.client_view client.old ≡ new_client 0 }
+    requires lower { IsSeated P.theory tables.old 1 lower.old }
+    requires lower_view { P.theory.client_view lower.old ≡ new_client 1 }
 {
+    assert_eq!(rt; trustee.moved(), 0);
     assert_eq!(rt; turn(trustee, tables, gate), Served::Quiet);
     assert!(rt; ask_sum(tables, client));
     assert_eq!(rt; turn(trustee, tables, gate), Served::Moved(1));
@@ -45,6 +46,10 @@ fn one_trustee<P: PairTable<Counter>, G: Gate>(
     assert!(rt; say_bye(tables, 1, client));
     assert!(rt; say_bye(tables, 1, lower));
     assert_eq!(rt; turn(trustee, tables, gate), Served::Ended);
+    assert_eq!(rt; trustee.moved(), 2);
+    assert_eq!(rt; turn(trustee, tables, gate), Served::Ended);
+    assert_eq!(rt; trustee.moved(), 0);
+    assert_eq!(rt; trustee.requests_run(), 4);
 }
 
 #[test]

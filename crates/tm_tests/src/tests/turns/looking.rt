@@ -31,23 +31,46 @@ fn found_sum(found: Collected<Counter>) -> bool
 
 /// A place collects at the greater trustee.
 fn collect<P: PairTable<Counter>>(tables: &mut [P], side: &mut P::ClientSide) -> Collected<Counter>
-    requires { IsSeated P.opening P.client_view P.HasClient P.HasTrustee P.trustee_view tables.old 1 side.old }
-    ensures collects { Collects (P.client_view side.old) (P.client_view side.new) result }
-    ensures mine { IsSeated P.opening P.client_view P.HasClient P.HasTrustee P.trustee_view tables.new 1 side.new }
-    ensures others { KeepsOthers P.opening P.client_view P.HasClient P.HasTrustee P.trustee_view tables.old tables.new (P.client_view side.old).place }
+    requires { IsSeated P.theory tables.old 1 side.old }
+    ensures collects { Collects (P.theory.client_view side.old) (P.theory.client_view side.new) result }
+    ensures mine { IsSeated P.theory tables.new 1 side.new }
+    ensures others { KeepsOthers P.theory tables.old tables.new (P.theory.client_view side.old).place }
 {
     tables[1].collect(side)
 }
 
+/// Whether two objects were entrusted, with ids that follow the counter's, and with names of two places.
+fn are_two_names(came: &AnswerBatch<Counter>) -> bool {
+    match came.answers.as_slice() {
+        [Answer::Entrusted(one), Answer::Entrusted(other)] => {
+            one.id == 2 && other.id == 3 && one.place != other.place
+        }
+        _ => false,
+    }
+}
+
+/// A client collects at the greater trustee. Whether two names came.
+pub(super) fn collect_names<P: PairTable<Counter>>(
+    tables: &mut [P],
+    side: &mut P::ClientSide,
+) -> bool
+    requires { IsSeated P.theory tables.old 1 side.old }
+{
+    match collect(tables, side) {
+        Collected::Answers(came) => are_two_names(&came),
+        _ => false,
+    }
+}
+
 /// Client 0, to which nothing came, collects at the greater trustee. Whether the sum came.
 pub(super) fn collect_sum<P: PairTable<Counter>>(tables: &mut [P], side: &mut P::ClientSide) -> bool
-    requires mine { IsSeated P.opening P.client_view P.HasClient P.HasTrustee P.trustee_view tables.old 1 side.old }
-    requires sent { (P.client_view side.old).sent ≡ adds_and_releases }
-    requires got { (P.client_view side.old).got ≡ [] }
-    ensures place { (P.client_view side.new).place ≡ (P.client_view side.old).place }
-    ensures may { IsTrue result → MayBye (P.client_view side.new) }
-    ensures mine { IsSeated P.opening P.client_view P.HasClient P.HasTrustee P.trustee_view tables.new 1 side.new }
-    ensures others { KeepsOthers P.opening P.client_view P.HasClient P.HasTrustee P.trustee_view tables.old tables.new (P.client_view side.old).place }
+    requires mine { IsSeated P.theory tables.old 1 side.old }
+    requires sent { (P.theory.client_view side.old).sent ≡ adds_and_releases }
+    requires got { (P.theory.client_view side.old).got ≡ [] }
+    ensures place { (P.theory.client_view side.new).place ≡ (P.theory.client_view side.old).place }
+    ensures may { IsTrue result → MayBye (P.theory.client_view side.new) }
+    ensures mine { IsSeated P.theory tables.new 1 side.new }
+    ensures others { KeepsOthers P.theory tables.old tables.new (P.theory.client_view side.old).place }
 {
     found_sum(collect(tables, side))
 }

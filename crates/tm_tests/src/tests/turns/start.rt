@@ -1,13 +1,11 @@
 //! A runtime of one client and two trustees, of which the greater has a counter.
-ghost use Rattle.std.specs.Prelude.{◌≡◌, [], ◌∷◌, map, IfOk};
+ghost use Rattle.std.specs.Prelude.{◌≡◌, [], ◌∷◌, IfOk};
 ghost use Rattle.tm_seq.specs.Counting.{counter_kind};
-ghost use Rattle.tm_model.specs.Laws.{first_of};
-ghost use Rattle.tm_model.specs.Slots.{no_slot};
-ghost use Rattle.tm_pair.specs.Opened.{IsOpened};
-ghost use Rattle.tm_pair.specs.Stands.{client_of, trustee_of};
-ghost use Rattle.tm_pair.specs.Plain.{client_at, trustee_at};
+ghost use Rattle.tm_pair.specs.Theory.{IsNewTable};
+ghost use Rattle.tm_pair.specs.Views.{new_client, new_trustee};
+ghost use Rattle.tm_pair.specs.Plain.{client_at, trustee_at, plain_theory};
 ghost use Rattle.tm_tests.specs.Driving.{one_counter, counting};
-ghost use Rattle.tm_trustee.specs.Standing.{IsServing};
+ghost use Rattle.tm_trustee.specs.Serving.{IsServing};
 
 use std::alloc::{AllocError, Global};
 use tm_batch::{Config, First, Holders};
@@ -18,7 +16,7 @@ use tm_trustee::Trustee;
 const SMALL: Config = Config {
     clients: 1,
     trustees: 2,
-    objects: 4,
+    objects: 4_096,
     trusts: 4,
     last_id: 9,
 };
@@ -46,14 +44,14 @@ type Opened = (
 
 /// The table of the lesser trustee.
 pub(super) fn low(alloc: Global) -> Result<Opened, AllocError>
-    ensures { IfOk result (λ r. IsOpened counter_kind (counting 0) r.0 r.1.items r.2) }
+    ensures { IfOk result (λ r. IsNewTable (plain_theory counter_kind) (counting 0) r.0 r.1.items r.2) }
 {
     PlainTable::new(alloc, 0, SMALL, &one_counter(alloc)?)
 }
 
 /// The table of the greater one.
 pub(super) fn high(alloc: Global) -> Result<Opened, AllocError>
-    ensures { IfOk result (λ r. IsOpened counter_kind (counting 1) r.0 r.1.items r.2) }
+    ensures { IfOk result (λ r. IsNewTable (plain_theory counter_kind) (counting 1) r.0 r.1.items r.2) }
 {
     PlainTable::new(alloc, 1, SMALL, &one_counter(alloc)?)
 }
@@ -63,8 +61,8 @@ pub(super) fn greater(
     alloc: Global,
     side: PlainTrustee<Counter>,
 ) -> Result<Trustee<Counter, PlainTable<Counter>>, AllocError>
-    requires { trustee_at side ≡ trustee_of (first_of (counting 1)) }
-    ensures serving { IfOk result (λ t. IsServing counter_kind (counting 1) t.number t.clients t.estate (trustee_at t.side) t.stages.items (map client_at t.above.items) t.nested.items) }
+    requires { trustee_at side ≡ new_trustee 2 }
+    ensures serving { IfOk result (λ t. IsServing (plain_theory counter_kind) counter_kind (counting 1) t) }
     ensures side { IfOk result (λ t. t.side ≡ side) }
     ensures above { IfOk result (λ t. t.above.items ≡ []) }
 {
@@ -89,9 +87,9 @@ pub(super) fn lesser(
     side: PlainTrustee<Counter>,
     seat: PlainClient<Counter>,
 ) -> Result<Trustee<Counter, PlainTable<Counter>>, AllocError>
-    requires side { trustee_at side ≡ trustee_of (first_of (counting 0)) }
-    requires seat { client_at seat ≡ client_of 1 no_slot }
-    ensures serving { IfOk result (λ t. IsServing counter_kind (counting 0) t.number t.clients t.estate (trustee_at t.side) t.stages.items (map client_at t.above.items) t.nested.items) }
+    requires side { trustee_at side ≡ new_trustee 1 }
+    requires seat { client_at seat ≡ new_client 1 }
+    ensures serving { IfOk result (λ t. IsServing (plain_theory counter_kind) counter_kind (counting 0) t) }
     ensures side { IfOk result (λ t. t.side ≡ side) }
     ensures above { IfOk result (λ t. t.above.items ≡ seat ∷ []) }
 {

@@ -13,10 +13,10 @@ pub(super) fn turn<P: PairTable<Counter>, G: Gate>(
     tables: &mut [P],
     gate: &G,
 ) -> Served
-    requires { (n : ℕ) × IsDriven P.opening P.client_view P.HasClient P.HasTrustee P.trustee_view tables.old n trustee.old }
-    ensures ready { (n : ℕ) → IsDriven P.opening P.client_view P.HasClient P.HasTrustee P.trustee_view tables.old n trustee.old → IsDriven P.opening P.client_view P.HasClient P.HasTrustee P.trustee_view tables.new n trustee.new }
-    ensures sides { (n : ℕ) (other : P.ClientSide) → IsDriven P.opening P.client_view P.HasClient P.HasTrustee P.trustee_view tables.old n trustee.old → IsSeated P.opening P.client_view P.HasClient P.HasTrustee P.trustee_view tables.old n other → IsSeated P.opening P.client_view P.HasClient P.HasTrustee P.trustee_view tables.new n other }
-    ensures others { (n : ℕ) → IsDriven P.opening P.client_view P.HasClient P.HasTrustee P.trustee_view tables.old n trustee.old → KeepsOthers P.opening P.client_view P.HasClient P.HasTrustee P.trustee_view tables.old tables.new (1 + n) }
+    requires { (n : ℕ) × IsDriven P.theory tables.old n trustee.old }
+    ensures ready { (n : ℕ) → IsDriven P.theory tables.old n trustee.old → IsDriven P.theory tables.new n trustee.new }
+    ensures sides { (n : ℕ) (other : P.ClientSide) → IsDriven P.theory tables.old n trustee.old → IsSeated P.theory tables.old n other → IsSeated P.theory tables.new n other }
+    ensures others { (n : ℕ) → IsDriven P.theory tables.old n trustee.old → KeepsOthers P.theory tables.old tables.new (1 + n) }
 {
     trustee.serve_turn(tables, gate)
 }

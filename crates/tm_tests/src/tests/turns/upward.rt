@@ -1,7 +1,6 @@
 //! A `Bye` that goes upward through two trustees, which end one after the other.
 ghost use Rattle.std.specs.Prelude.{◌≡◌};
-ghost use Rattle.tm_model.specs.Slots.{no_slot};
-ghost use Rattle.tm_pair.specs.Stands.{client_of};
+ghost use Rattle.tm_pair.specs.Views.{new_client};
 ghost use Rattle.tm_tests.specs.Driving.{IsSeated, IsDriven};
 
 use super::asking::say_bye;
@@ -24,12 +23,12 @@ fn two_trustees<P: PairTable<Counter>, G: Gate>(
     at_high: &mut P::ClientSide,
     gate: &G,
 )
-    requires lesser { IsDriven P.opening P.client_view P.HasClient P.HasTrustee P.trustee_view tables.old 0 lesser.old }
-    requires greater { IsDriven P.opening P.client_view P.HasClient P.HasTrustee P.trustee_view tables.old 1 greater.old }
-    requires at_low { IsSeated P.opening P.client_view P.HasClient P.HasTrustee P.trustee_view tables.old 0 at_low.old }
-    requires low_view { P.client_view at_low.old ≡ client_of 0 no_slot }
-    requires at_high { IsSeated P.opening P.client_view P.HasClient P.HasTrustee P.trustee_view tables.old 1 at_high.old }
-    requires high_view { P.client_view at_high.old ≡ client_of 0 no_slot }
+    requires lesser { IsDriven P.theory tables.old 0 lesser.old }
+    requires greater { IsDriven P.theory tables.old 1 greater.old }
+    requires at_low { IsSeated P.theory tables.old 0 at_low.old }
+    requires low_view { P.theory.client_view at_low.old ≡ new_client 0 }
+    requires at_high { IsSeated P.theory tables.old 1 at_high.old }
+    requires high_view { P.theory.client_view at_high.old ≡ new_client 0 }
 {
     assert_eq!(rt; turn(lesser, tables, gate), Served::Quiet);
     assert!(rt; say_bye(tables, 0, at_low));
@@ -37,7 +36,11 @@ fn two_trustees<P: PairTable<Counter>, G: Gate>(
     assert_eq!(rt; turn(lesser, tables, gate), Served::Quiet);
     assert!(rt; say_bye(tables, 1, at_high));
     assert_eq!(rt; turn(greater, tables, gate), Served::Ended);
+    assert_eq!(rt; greater.moved(), 2);
     assert_eq!(rt; turn(lesser, tables, gate), Served::Ended);
+    assert_eq!(rt; lesser.moved(), 1);
+    assert_eq!(rt; lesser.requests_run(), 1);
+    assert_eq!(rt; greater.requests_run(), 2);
 }
 
 #[test]

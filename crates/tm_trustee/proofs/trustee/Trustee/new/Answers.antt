@@ -1,10 +1,9 @@
-use Rattle.std.proofs.Common.{rules, ◌≡◌, length}
+use Rattle.std.proofs.Common.{rules, ◌≡◌, length, refl}
 use Rattle.tm_trustee.proofs.BegunServing as begun
 use Rattle.tm_trustee.proofs.trustee.Trustee.new.Goals as goal
 
-pub returns-in-Ok-new-clause-serving : goal.returns-in-Ok-new-clause-serving
-returns-in-Ok-new-clause-serving g c =
+pub returns-in-Ok-new-clause-begun : goal.returns-in-Ok-new-clause-begun
+returns-in-Ok-new-clause-begun g c =
     let many : c.len.result ≡ length c.args.above.items = search rules in
-    λ opening whole may. begun.begins_serving g.P.PairTable.client_view g.S.Entrusted.kind opening c.args.number c.args.config whole c.args.first.items
-    c.args.nested.items c.in-Ok-new.estate (g.P.PairTable.trustee_view c.args.side) c.args.above.items c.in-Ok.stages.items c.len.result may
-    c.in-Ok-new.ensures.opened c.requires.home c.requires.seats c.in-Ok.ensures many
+    λ opening whole may. begun.begins_serving g.P.PairTable.theory g.S.Entrusted.kind opening c.args.config whole c.args.first.items _ c.len.result refl
+    c.new-in-Ok-new.ensures may c.in-Ok-new.ensures.opened c.requires.home c.requires.seats c.in-Ok.ensures many

@@ -1,8 +1,0 @@
-use Rattle.std.proofs.Common.{◌≡◌, ℕ, ◌≤◌, List, [], map, All, replicate, vec_len, vec_capacity}
-use Rattle.tm_state.proofs.opening.no_launches.Given as goal
-
--- no launch of each place so far, with the room of it
-abbrev pub invariant-loop : goal.invariant-loop
-invariant-loop g l =
-    (vec_len l.launched ≡ l.counter) × (l.places ≤ vec_capacity l.launched)
-    × (map {B = List (ℕ × ℕ)} (λ l. map (λ w. (w.id, w.ticket)) l.items) l.launched.items ≡ replicate l.counter []) × All (λ w. 64 ≤ vec_capacity w) l.launched.items

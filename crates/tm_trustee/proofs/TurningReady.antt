@@ -1,0 +1,164 @@
+-- A trustee is ready still after each part of a turn.
+use Rattle.std.proofs.Common.{◌≡◌, ℕ, ◌+◌, ◌<◌, ◌≤◌, List, length, sym, ◌∙◌, subst, arith}
+use Rattle.std.specs.Prelude.{slice_get, IsSomeAnd}
+use Rattle.std.specs.declared.option.Option.{Option}
+use Rattle.std.specs.declared.option.Option.TheVariants.{None, Some}
+use Rattle.std.proofs.lemmas.Option.{slice_get_within}
+use Rattle.tm_seq.specs.Kind.{Kind}
+use Rattle.tm_pair.specs.Views.{hand_of}
+use Rattle.tm_pair.specs.Theory.{Theory}
+use Rattle.tm_trustee.specs.Above.{IsAbove}
+use Rattle.tm_trustee.specs.Serving.{IsCurrent, IsServing, ups_of}
+use Rattle.tm_trustee.specs.Tables.{Pairwise, AreOfOne, AreAmong, KeepsAbove, KeepsOwn, IsReady}
+use Rattle.tm_trustee.specs.declared.trustee.Trustee.{Trustee}
+use Rattle.tm_trustee.proofs.Elements.{there_too, there}
+
+some_weaker : {X : Type 0} (P Q : X → Type 0) (o : Option X) → ((x : X) → P x → Q x) → IsSomeAnd o P → IsSomeAnd o Q
+some_weaker P Q None f h = absurd h
+some_weaker P Q (Some x) f h = f x h
+
+module _ {V O R T Table Client Owner : Type 0} (theory : Theory V O R T Table Client Owner) where
+  -- tables that keep their opening states are of one build still
+  of_one_still :
+      (old new : List Table) → length new ≡ length old → Pairwise (λ was now. theory.opening now ≡ theory.opening was) old new
+      → AreOfOne theory old → AreOfOne theory new
+  of_one_still old new many same is =
+      let (config, whole, each) = is.built in
+      record {
+        built = (
+          config,
+          whole,
+          λ t table here. let (was, before) = there_too new old t table (sym many) here in same t was table before here ∙ each t was before,
+        );
+      }
+
+  module _ (kind : Kind V O R T) where
+    -- its own table has its side, and it is the trustee of the state in which that opened
+    abbrev pub IsHome : Trustee V Table O R T Client Owner → Table → Type 0
+    IsHome t table = theory.HasTrustee table t.side × IsServing theory kind (theory.opening table) t
+
+    pub at_home :
+        (tables : List Table) (t : Trustee V Table O R T Client Owner) (own : Table) → IsReady theory kind tables t
+        → slice_get tables t.number ≡ Some own → IsHome t own
+    at_home tables t own ready here = subst (λ (o : Option Table). IsSomeAnd o (IsHome t)) here ready.home
+
+    -- it has one
+    pub own_table : (tables : List Table) (t : Trustee V Table O R T Client Owner) → IsReady theory kind tables t → (own : Table) × (slice_get tables t.number ≡ Some own)
+    own_table tables t ready = let (own, here, home) = there (IsHome t) (slice_get tables t.number) ready.home in (own, here)
+
+    -- only its sides above went on
+    pub above_ready :
+        (old new : List Table) (t u : Trustee V Table O R T Client Owner) → u ≡ record t { above = u.above; stages = u.stages } → IsReady theory kind old t
+        → IsAbove (t.clients + t.number) u.stages.items (ups_of theory u) → AreAmong theory new (t.number + 1) u.above.items
+        → KeepsAbove theory old new (t.number + 1) (t.clients + t.number) → IsReady theory kind new u
+    above_ready old new t u only ready is_above among keeps =
+        let v : Trustee V Table O R T Client Owner = record t { above = u.above; stages = u.stages } in
+        let many = keeps.as_many in
+        let seats = among.as_many in
+        let seats_before = ready.above.as_many in
+        let still : (table : Table) → IsHome t table → IsHome v table = λ table home.
+        let sides = home.1.sides in (
+          home.0,
+          record {
+            number = home.1.number;
+            clients = home.1.clients;
+            current = home.1.current;
+            free = home.1.free;
+            sides = omega (arith, sides, seats, seats_before, many);
+            above = is_above;
+            nested = home.1.nested;
+          },
+        ) in
+        let later : IsReady theory kind new v = record {
+          home =
+              subst (λ (o : Option Table). IsSomeAnd o (IsHome v)) (sym (keeps.lower t.number (omega arith)))
+              (some_weaker (IsHome t) (IsHome v) (slice_get old t.number) still ready.home);
+          built = of_one_still old new many (λ k x y ex ey. (keeps.others k x y ex ey).opening) ready.built;
+          above = among;
+        } in
+        subst (λ x. IsReady theory kind new x) (sym only) later
+
+    -- only its own table was served
+    pub own_ready :
+        (old new : List Table) (t u : Trustee V Table O R T Client Owner) (was now : Table)
+        → u ≡ record t { side = u.side; state = u.state; since = u.since } → IsReady theory kind old t
+        → slice_get old t.number ≡ Some was → slice_get new t.number ≡ Some now → KeepsOwn theory old new t.number
+        → theory.opening now ≡ theory.opening was → theory.HasTrustee now u.side
+        → IsCurrent kind (theory.opening was) (theory.trustee_view u.side).log u.since.items u.state
+        → ((c : ℕ) → hand_of (theory.trustee_view u.side) c ≡ None) → IsReady theory kind new u
+    own_ready old new t u was now only ready here still own opens mine current free =
+        let v : Trustee V Table O R T Client Owner = record t { side = u.side; state = u.state; since = u.since } in
+        let home = at_home old t was ready here in
+        let serving : IsServing theory kind (theory.opening was) v = record {
+          number = home.1.number;
+          clients = home.1.clients;
+          current = current;
+          free = free;
+          sides = home.1.sides;
+          above = home.1.above;
+          nested = home.1.nested;
+        } in
+        let later : IsReady theory kind new v = record {
+          home =
+              subst (λ (o : Option Table). IsSomeAnd o (IsHome v)) (sym still)
+              (mine, subst (λ s. IsServing theory kind s v) (sym opens) serving);
+          built = of_one_still old new own.as_many own.openings ready.built;
+          above = record {
+            as_many = ready.above.as_many ∙ sym own.as_many;
+            mine = λ i table seat is is_seat.
+                ready.above.mine i table seat (sym (own.others (t.number + 1 + i) (λ e. absurd (omega (arith, e)))) ∙ is) is_seat;
+          };
+        } in
+        subst (λ x. IsReady theory kind new x) (sym only) later
+
+    -- only what it moved was noted
+    pub noted_ready :
+        (tables : List Table) (t : Trustee V Table O R T Client Owner) (moved : ℕ) → IsReady theory kind tables t
+        → IsReady theory kind tables (record t { moved = moved })
+    noted_ready tables t moved ready =
+        let v : Trustee V Table O R T Client Owner = record t { moved = moved } in
+        let still : (table : Table) → IsHome t table → IsHome v table = λ table home. (
+          home.0,
+          record {
+            number = home.1.number;
+            clients = home.1.clients;
+            current = home.1.current;
+            free = home.1.free;
+            sides = home.1.sides;
+            above = home.1.above;
+            nested = home.1.nested;
+          },
+        ) in
+        record {
+          home = some_weaker (IsHome t) (IsHome v) (slice_get tables t.number) still ready.home;
+          built = ready.built;
+          above = ready.above;
+        }
+
+    -- its sides above are as it notes
+    pub is_above : (tables : List Table) (t : Trustee V Table O R T Client Owner) → IsReady theory kind tables t → IsAbove (t.clients + t.number) t.stages.items (ups_of theory t)
+    is_above tables t ready =
+        let (own, here) = own_table tables t ready in (at_home tables t own ready here).1.above
+
+    -- its numbers are small
+    pub record IsFew (tables : List Table) (t : Trustee V Table O R T Client Owner) : Type 0 where
+      pub number : t.number ≤ 31
+      pub clients : t.clients ≤ 64
+      pub above : length t.above.items ≤ 31
+      pub within : t.number < length tables
+
+    pub is_few : (tables : List Table) (t : Trustee V Table O R T Client Owner) → IsReady theory kind tables t → IsFew tables t
+    is_few tables t ready =
+        let (own, here) = own_table tables t ready in
+        let serving = (at_home tables t own ready here).1 in
+        let (number, config, first, buildable, lt, is) = serving.current.represents.opens in
+        let most = subst (λ s. s.setup.config.trustees ≤ 32) (sym is) buildable.trustees.1 in
+        let few = subst (λ s. s.setup.config.clients ≤ 64) (sym is) buildable.clients.1 in
+        let sides = serving.sides in
+        let clients = serving.clients in
+        record {
+          number = omega (arith, sides, most);
+          clients = omega (arith, clients, few);
+          above = omega (arith, sides, most);
+          within = slice_get_within tables t.number own here;
+        }
