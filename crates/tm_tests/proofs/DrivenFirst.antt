@@ -11,7 +11,7 @@ use Rattle.tm_seq.specs.declared.counter.CounterReply.{CounterReply}
 use Rattle.tm_seq.specs.declared.counter.CounterTask.{CounterTask}
 use Rattle.tm_batch.specs.declared.config.First.{First}
 use Rattle.tm_batch.specs.declared.message.Name.{Name}
-use Rattle.tm_model.specs.State.{State, ids_above}
+use Rattle.tm_model.specs.State.{ids_above}
 use Rattle.tm_model.specs.Opening.{is_named, IsBuildable, placed_on}
 use Rattle.tm_pair.specs.Theory.{Theory}
 use Rattle.tm_trustee.specs.Serving.{IsServing}
