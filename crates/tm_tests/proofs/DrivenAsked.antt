@@ -15,7 +15,7 @@ use Rattle.tm_pair.specs.Calls.{Collects}
 use Rattle.tm_pair.specs.declared.table.Collected.{Collected}
 use Rattle.tm_pair.specs.declared.table.Collected.TheVariants.{Answers, Pending, Idle}
 use Rattle.tm_tests.specs.Sample.{the_name}
-use Rattle.tm_tests.specs.Driving.{counting, adds_and_releases, entrusts_two, EndsNothing, MayBye}
+use Rattle.tm_tests.specs.Driving.{counting, adds_and_releases, adds_more, entrusts_two, EndsNothing, MayBye}
 
 module _ {V O R T : Type 0} where
   launches_and_bye : (qs : List (Request V O R T)) → launches_in (qs ++ Bye ∷ []) ≡ launches_in qs
@@ -108,4 +108,24 @@ two_orderly = record {
   bye = λ e. absurd cc;
   last = λ e. absurd cc;
   trustee = λ le. absurd (omega (arith, le));
+}
+
+more_held :
+    (before after : List (Request Counter CounterOp CounterReply CounterTask)) (q : Request Counter CounterOp CounterReply CounterTask) (id : ℕ)
+    → adds_more ≡ before ++ q ∷ after → Names q id → gave id before < came (counting 1) 1 [] [] id
+more_held [] after q id e names =
+    let at : q ≡ Apply the_name (Add 7) = cc in let is : 1 ≡ id = subst (λ r. Names r id) at names in
+    subst (λ i. gave {V = Counter} {O = CounterOp} {R = CounterReply} {T = CounterTask} i [] < came (counting 1) 1 [] [] i) is (omega arith)
+more_held (b ∷ []) after q id e names = absurd cc
+more_held (b ∷ d ∷ before) after q id e names = absurd cc
+
+-- a trustee's place may ask to add more
+pub more_orderly : IsOrderly (counting 1) 1 [] [] adds_more
+more_orderly = record {
+  held = more_held;
+  grants = (tt, tt);
+  launches = omega arith;
+  bye = λ e. absurd cc;
+  last = λ e. absurd cc;
+  trustee = λ le. (tt, tt);
 }

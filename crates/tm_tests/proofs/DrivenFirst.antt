@@ -1,10 +1,8 @@
 -- How the trustees of the tests begin.
-use Rattle.std.proofs.Common.{◌≡◌, ℕ, zero, suc, ◌+◌, ◌<◌, ◌==◌, List, [], ◌∷◌, map, filter, refl, sym, subst, arith}
-use Rattle.std.specs.Prelude.{slice_get, slice_index_or, IsSomeAnd}
+use Rattle.std.proofs.Common.{◌≡◌, ℕ, zero, suc, ◌+◌, ◌<◌, ◌==◌, List, [], ◌∷◌, map, filter, refl, sym, subst, arith, ne_eqb}
+use Rattle.std.specs.Prelude.{slice_get, IsSomeAnd}
 use Rattle.std.specs.List.{IsDistinct}
-use Rattle.std.proofs.Math.ListN.{replicate}
-use Rattle.std.specs.declared.option.Option.{Option}
-use Rattle.std.specs.declared.option.Option.TheVariants.{None, Some}
+use Rattle.std.specs.declared.option.Option.TheVariants.{Some}
 use Rattle.std.proofs.lemmas.List.Sums.{length-filter, count_by-le-length}
 use Rattle.tm_seq.specs.Counting.{counter_kind}
 use Rattle.tm_seq.specs.declared.counter.Counter.{Counter}
@@ -13,14 +11,14 @@ use Rattle.tm_seq.specs.declared.counter.CounterReply.{CounterReply}
 use Rattle.tm_seq.specs.declared.counter.CounterTask.{CounterTask}
 use Rattle.tm_batch.specs.declared.config.First.{First}
 use Rattle.tm_batch.specs.declared.message.Name.{Name}
-use Rattle.tm_model.specs.State.{State, ids_above}
+use Rattle.tm_model.specs.State.{ids_above}
 use Rattle.tm_model.specs.Opening.{is_named, IsBuildable, placed_on}
 use Rattle.tm_pair.specs.Theory.{Theory}
 use Rattle.tm_trustee.specs.Serving.{IsServing}
 use Rattle.tm_trustee.specs.Begun.{MayBegin}
 use Rattle.tm_trustee.specs.Tables.{AreAmong}
 use Rattle.tm_trustee.proofs.TurningReady.{IsHome}
-use Rattle.tm_tests.specs.Driving.{small, one_counter, counting, IsDriven}
+use Rattle.tm_tests.specs.Driving.{small, one_counter, counting, held_above, IsDriven}
 use Rattle.tm_tests.proofs.DrivenKept.{is_some}
 use Rattle.tm_trustee.specs.declared.trustee.Trustee.{Trustee}
 
@@ -34,39 +32,33 @@ small_buildable = record {
   last_id = omega arith;
   trustee = (omega arith, tt);
   held = ((λ e. absurd cc), tt);
-  once = ((tt, tt), tt);
-  below = ((omega arith, tt), tt);
+  once = (((refl, tt), (tt, tt)), tt);
+  below = ((omega arith, (omega arith, tt)), tt);
   room = λ t. let n = length-filter (λ f. f.trustee == t) one_counter in let most = count_by-le-length (λ f. f.trustee == t) one_counter in omega (arith, n, most);
   ids = λ t. let n = length-filter (λ f. f.trustee == t) one_counter in let most = count_by-le-length (λ f. f.trustee == t) one_counter in omega (arith, n, most);
   named = λ c lt. let most = count_by-le-length (is_named c) one_counter in omega (arith, most);
 }
 
--- neither trustee holds an object above
-none_above : (n u : ℕ) → n < 2 → [] ≡ ids_above (counting n).setup u
-none_above zero zero lt = refl
-none_above zero (suc zero) lt = refl
-none_above zero (suc (suc u)) lt = refl
-none_above (suc zero) zero lt = refl
-none_above (suc zero) (suc zero) lt = refl
-none_above (suc zero) (suc (suc u)) lt = refl
-none_above (suc (suc n)) u lt = absurd (omega (arith, lt))
+-- what each trustee holds above
+holds_above : (n u : ℕ) → n < 2 → map (λ m. m.1.id) (filter (λ m. m.0 == u) (held_above n)) ≡ ids_above (counting n).setup u
+holds_above zero zero lt = refl
+holds_above zero (suc zero) lt = refl
+holds_above zero (suc (suc u)) lt = rw (ne_eqb 1 (suc (suc u)) (λ e. absurd (omega (arith, e)))) refl
+holds_above (suc zero) zero lt = refl
+holds_above (suc zero) (suc zero) lt = refl
+holds_above (suc zero) (suc (suc u)) lt = refl
+holds_above (suc (suc n)) u lt = absurd (omega (arith, lt))
 
--- a trustee may begin with what is placed on it, no object above, and a side at each greater one
+-- a trustee may begin with what is placed on it, what it holds above, and a side at each greater one
 pub begins_with :
-    (n : ℕ) (first : List (First Counter)) (names : List (ℕ × Name)) (seats : ℕ) → n < 2 → first ≡ placed_on n one_counter → names ≡ []
+    (n : ℕ) (first : List (First Counter)) (names : List (ℕ × Name)) (seats : ℕ) → n < 2 → first ≡ placed_on n one_counter → names ≡ held_above n
     → n + 1 + seats ≡ 2 → MayBegin (counting n) n small one_counter first names seats
-begins_with n first names seats lt placed none sides = record {
+begins_with n first names seats lt placed held sides = record {
   opens = record { buildable = small_buildable; in_range = lt; placed = placed };
   opening = refl;
-  nested = λ u. subst (λ (l : List (ℕ × Name)). map (λ m. m.1.id) (filter (λ m. m.0 == u) l) ≡ ids_above (counting n).setup u) (sym none) (none_above n u lt);
+  nested = λ u. subst (λ (l : List (ℕ × Name)). map (λ m. m.1.id) (filter (λ m. m.0 == u) l) ≡ ids_above (counting n).setup u) (sym held) (holds_above n u lt);
   sides = sides;
 }
-
--- no batch is in hand at a side of any number of places at first
-pub none_in_hand : {X : Type 0} (n c : ℕ) → slice_index_or (replicate {A = Option X} n None) c None ≡ None
-none_in_hand zero c = refl
-none_in_hand (suc n) zero = refl
-none_in_hand (suc n) (suc c) = none_in_hand n c
 
 module _ {Table Client Owner : Type 0} (theory : Theory Counter CounterOp CounterReply CounterTask Table Client Owner) where
   each_opens :

@@ -8,7 +8,6 @@ use Rattle.tm_seq.specs.declared.counter.Counter.{Counter}
 use Rattle.tm_seq.specs.declared.counter.CounterOp.{CounterOp}
 use Rattle.tm_seq.specs.declared.counter.CounterReply.{CounterReply}
 use Rattle.tm_seq.specs.declared.counter.CounterTask.{CounterTask}
-use Rattle.tm_model.specs.State.{State}
 use Rattle.tm_pair.specs.Theory.{Theory}
 use Rattle.tm_trustee.specs.Tables.{IsReady, KeepsTables}
 use Rattle.tm_trustee.specs.Turn.{KeepsParts}

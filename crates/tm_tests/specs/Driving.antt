@@ -1,11 +1,12 @@
--- For tests: a runtime of one client and two trustees, of which the greater has a counter of 0 that the client holds.
-use Rattle.std.specs.Prelude.{◌≡◌, ◌≢◌, ℕ, ◌+◌, false, List, [], ◌∷◌, slice_get, IsSomeAnd}
+-- For tests: a runtime of one client and two trustees, of which the greater has a counter of 0 that the client and the lesser hold.
+use Rattle.std.specs.Prelude.{◌≡◌, ◌≢◌, ℕ, zero, suc, ◌+◌, false, List, [], ◌∷◌, slice_get, IsSomeAnd}
 use Rattle.tm_seq.specs.Counting.{counter_kind}
 use Rattle.tm_seq.specs.declared.counter.Counter.{Counter}
 use Rattle.tm_seq.specs.declared.counter.CounterOp.{CounterOp}
 use Rattle.tm_seq.specs.declared.counter.CounterOp.TheVariants.{Add}
 use Rattle.tm_seq.specs.declared.counter.CounterReply.{CounterReply}
 use Rattle.tm_seq.specs.declared.counter.CounterTask.{CounterTask}
+use Rattle.tm_batch.specs.declared.message.Name.{Name}
 use Rattle.tm_batch.specs.declared.message.Request.{Request}
 use Rattle.tm_batch.specs.declared.message.Request.TheVariants.{Entrust, Apply, Release}
 use Rattle.tm_batch.specs.declared.config.Config.{Config}
@@ -25,7 +26,7 @@ abbrev pub small : Config
 small = record { clients = 1; trustees = 2; objects = 4096; trusts = 4; last_id = 9 }
 
 abbrev pub one_counter : List (First Counter)
-one_counter = record { trustee = 1; value = record { value = 0 }; holders = 0 ∷ [] } ∷ []
+one_counter = record { trustee = 1; value = record { value = 0 }; holders = 0 ∷ 1 ∷ [] } ∷ []
 
 -- the state in which trustee n opens
 abbrev pub counting : ℕ → State Counter CounterOp CounterReply CounterTask
@@ -34,6 +35,15 @@ counting n = opening_of n small one_counter
 -- 5 is added to it, and it is given up
 abbrev pub adds_and_releases : {V R T : Type 0} → List (Request V CounterOp R T)
 adds_and_releases = Apply the_name (Add 5) ∷ Release the_name ∷ []
+
+-- the objects that trustee n holds above
+abbrev pub held_above : ℕ → List (ℕ × Name)
+held_above zero = (1, the_name) ∷ []
+held_above (suc n) = []
+
+-- 7 is added to the counter
+abbrev pub adds_more : {V R T : Type 0} → List (Request V CounterOp R T)
+adds_more = Apply the_name (Add 7) ∷ []
 
 -- two counters are entrusted
 abbrev pub entrusts_two : List (Request Counter CounterOp CounterReply CounterTask)

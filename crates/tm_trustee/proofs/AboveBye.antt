@@ -7,6 +7,7 @@ use Rattle.std.specs.declared.result.Result.{Result}
 use Rattle.std.specs.declared.result.Result.TheVariants.{Ok, Err}
 use denote.Enum.Bare.{sameb}
 use Rattle.tm_seq.specs.Kind.{Kind}
+use Rattle.tm_batch.specs.declared.limits.TheConstants.{MOST_REQUESTS}
 use Rattle.tm_batch.specs.declared.message.Request.{Request}
 use Rattle.tm_batch.specs.declared.message.Request.TheVariants.{Entrust, Apply, Launch, Grant, Release, Reclaim, Bye}
 use Rattle.tm_model.specs.State.{State, place_count}
@@ -67,9 +68,9 @@ module _ {V O R T : Type 0} where
   -- what a batch has that was empty, once a Bye was appended
   pub one_bye :
       {E : Type 0} (empty b : List (Request V O R T)) (pushed : Result (Unit {0}) E)
-      → empty ≡ [] → (length empty < 16 → IsOk pushed) → OnOk pushed (b ≡ empty ++ Bye ∷ []) → b ≡ Bye ∷ []
+      → empty ≡ [] → (length empty < MOST_REQUESTS → IsOk pushed) → OnOk pushed (b ≡ empty ++ Bye ∷ []) → b ≡ Bye ∷ []
   one_bye empty b pushed none free ok =
-      let room : length empty < 16 = subst (λ l. length l < 16) (sym none) (lit< tt) in
+      let room : length empty < MOST_REQUESTS = subst (λ l. length l < MOST_REQUESTS) (sym none) (lit< tt) in
       on_ok pushed (free room) ok ∙ ap (λ l. l ++ Bye ∷ []) none
 
   -- a side that is before its Bye has said none, and nothing is out

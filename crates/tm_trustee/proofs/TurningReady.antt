@@ -5,6 +5,7 @@ use Rattle.std.specs.declared.option.Option.{Option}
 use Rattle.std.specs.declared.option.Option.TheVariants.{None, Some}
 use Rattle.std.proofs.lemmas.Option.{slice_get_within}
 use Rattle.tm_seq.specs.Kind.{Kind}
+use Rattle.tm_batch.specs.declared.limits.TheConstants.{MOST_CLIENTS, MOST_TRUSTEES}
 use Rattle.tm_pair.specs.Views.{hand_of}
 use Rattle.tm_pair.specs.Theory.{Theory}
 use Rattle.tm_trustee.specs.Above.{IsAbove}
@@ -142,9 +143,9 @@ module _ {V O R T Table Client Owner : Type 0} (theory : Theory V O R T Table Cl
 
     -- its numbers are small
     pub record IsFew (tables : List Table) (t : Trustee V Table O R T Client Owner) : Type 0 where
-      pub number : t.number ≤ 31
-      pub clients : t.clients ≤ 64
-      pub above : length t.above.items ≤ 31
+      pub number : t.number < MOST_TRUSTEES
+      pub clients : t.clients ≤ MOST_CLIENTS
+      pub above : length t.above.items < MOST_TRUSTEES
       pub within : t.number < length tables
 
     pub is_few : (tables : List Table) (t : Trustee V Table O R T Client Owner) → IsReady theory kind tables t → IsFew tables t
@@ -152,8 +153,8 @@ module _ {V O R T Table Client Owner : Type 0} (theory : Theory V O R T Table Cl
         let (own, here) = own_table tables t ready in
         let serving = (at_home tables t own ready here).1 in
         let (number, config, first, buildable, lt, is) = serving.current.represents.opens in
-        let most = subst (λ s. s.setup.config.trustees ≤ 32) (sym is) buildable.trustees.1 in
-        let few = subst (λ s. s.setup.config.clients ≤ 64) (sym is) buildable.clients.1 in
+        let most = subst (λ s. s.setup.config.trustees ≤ MOST_TRUSTEES) (sym is) buildable.trustees.1 in
+        let few = subst (λ s. s.setup.config.clients ≤ MOST_CLIENTS) (sym is) buildable.clients.1 in
         let sides = serving.sides in
         let clients = serving.clients in
         record {

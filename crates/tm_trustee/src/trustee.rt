@@ -151,7 +151,7 @@ impl<S: FitsBatches, P: PairTable<S>> Trustee<S, P> {
 
     /// What its last turn moved, 0 before the first: the batches that it published, collected and answered, and the
     /// launched work that it resumed, together, or `u64::MAX` where that is more. It tells this of a turn that
-    /// ended the trustee too.
+    /// ended the trustee too. It takes constant time, as the next does.
     pub fn moved(&self) -> u64
         ensures { result ≡ self.now.moved }
     {

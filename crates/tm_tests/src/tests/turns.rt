@@ -7,6 +7,7 @@ mod asking;
 mod gate;
 mod looking;
 mod names;
+mod nested;
 mod start;
 mod turning;
 mod upward;

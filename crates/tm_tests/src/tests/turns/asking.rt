@@ -2,7 +2,7 @@
 ghost use Rattle.std.specs.Prelude.{◌≡◌, ◌≢◌, ℕ, [], ◌∷◌, ◌<◌, IsTrue};
 ghost use Rattle.tm_batch.specs.declared.message.Request.TheVariants.{Bye};
 ghost use Rattle.tm_pair.specs.Views.{new_client};
-ghost use Rattle.tm_tests.specs.Driving.{adds_and_releases, entrusts_two, MayBye, IsSeated, KeepsOthers};
+ghost use Rattle.tm_tests.specs.Driving.{adds_and_releases, adds_more, entrusts_two, MayBye, IsSeated, KeepsOthers};
 
 use tm_batch::{Batch, Name, Request};
 use tm_pair::PairTable;
@@ -27,6 +27,28 @@ fn bye() -> Batch<Counter>
     let mut batch = Batch::new(0);
     let _ = batch.push(Request::Bye);
     batch
+}
+
+/// Adds 7 to the counter.
+fn more() -> Batch<Counter>
+    ensures requests { result.requests.items ≡ adds_more }
+    ensures room { result.room ≡ 0 }
+{
+    let mut batch = Batch::new(0);
+    let _ = batch.push(Request::Apply(Name { id: 1, place: 0 }, CounterOp::Add(7)));
+    batch
+}
+
+/// The place of the lesser trustee, which sent nothing, asks the greater one to add more. Whether it could.
+pub(super) fn ask_more<P: PairTable<Counter>>(tables: &mut [P], side: &mut P::ClientSide) -> bool
+    requires mine { IsSeated P.theory tables.old 1 side.old }
+    requires first { P.theory.client_view side.old ≡ new_client 1 }
+    ensures free { IsTrue result }
+    ensures place { (P.theory.client_view side.new).place ≡ 1 }
+    ensures mine { IsSeated P.theory tables.new 1 side.new }
+    ensures others { KeepsOthers P.theory tables.old tables.new 1 }
+{
+    tables[1].publish(side, more()).is_ok()
 }
 
 /// Two counters, of 1 and of 2.

@@ -62,6 +62,27 @@ pub(super) fn collect_names<P: PairTable<Counter>>(
     }
 }
 
+/// Whether the sum is that of both places.
+fn is_greater_sum(came: &AnswerBatch<Counter>) -> bool {
+    matches!(
+        came.answers.as_slice(),
+        [Answer::Replied(CounterReply::Is(12))]
+    )
+}
+
+/// A place collects at the greater trustee. Whether the sum of what both places added came.
+pub(super) fn collect_greater_sum<P: PairTable<Counter>>(
+    tables: &mut [P],
+    side: &mut P::ClientSide,
+) -> bool
+    requires { IsSeated P.theory tables.old 1 side.old }
+{
+    match collect(tables, side) {
+        Collected::Answers(came) => is_greater_sum(&came),
+        _ => false,
+    }
+}
+
 /// Client 0, to which nothing came, collects at the greater trustee. Whether the sum came.
 pub(super) fn collect_sum<P: PairTable<Counter>>(tables: &mut [P], side: &mut P::ClientSide) -> bool
     requires mine { IsSeated P.theory tables.old 1 side.old }

@@ -8,7 +8,7 @@ ghost use Rattle.tm_tests.specs.Driving.{one_counter, counting};
 ghost use Rattle.tm_trustee.specs.Serving.{IsServing};
 
 use std::alloc::{AllocError, Global};
-use tm_batch::{Config, First, Holders};
+use tm_batch::{Config, First, Holders, Name};
 use tm_pair::{PlainClient, PlainTable, PlainTrustee};
 use tm_seq::Counter;
 use tm_trustee::Trustee;
@@ -21,11 +21,11 @@ const SMALL: Config = Config {
     last_id: 9,
 };
 
-/// The counter of 0, which client 0 holds.
+/// The counter of 0, which client 0 holds, and the lesser trustee.
 fn one_counter(alloc: Global) -> Result<Vec<First<Counter>>, AllocError>
     ensures { IfOk result (λ first. first.items ≡ one_counter) }
 {
-    let holders = Holders::new(vec![in alloc; 0]?);
+    let holders = Holders::new(vec![in alloc; 0, 1]?);
     Ok(vec![in alloc;
         First {
             trustee: 1,
@@ -94,15 +94,8 @@ pub(super) fn lesser(
     ensures above { IfOk result (λ t. t.above.items ≡ seat ∷ []) }
 {
     let above = vec![in alloc; seat]?;
-    match Trustee::new(
-        alloc,
-        0,
-        SMALL,
-        Vec::new(alloc),
-        side,
-        above,
-        Vec::new(alloc),
-    ) {
+    let nested = vec![in alloc; (1, Name { id: 1, place: 0 })]?;
+    match Trustee::new(alloc, 0, SMALL, Vec::new(alloc), side, above, nested) {
         Ok(trustee) => Ok(trustee),
         Err(_) => Err(AllocError),
     }

@@ -1,11 +1,11 @@
-use Rattle.std.proofs.Common.{◌+◌, ◌≤◌, refl, arith}
+use Rattle.std.proofs.Common.{◌+◌, refl, arith}
 use Rattle.tm_trustee.proofs.TurningReady as turning
 use Rattle.tm_trustee.proofs.trustee.Trustee.look_above.Goals as goal
 
 pub overflow_add-self : goal.overflow_add-self
 overflow_add-self g c =
     let few = turning.is_few g.P.PairTable.theory g.S.Entrusted.kind c.args.tables.now c.args.self.now c.requires in
-    let most : c.args.self.now.number ≤ 31 = few.number in omega (arith, most)
+    omega (arith, few.number)
 
 pub go_above-requires : goal.go_above-requires
 go_above-requires g c = record {

@@ -1,4 +1,4 @@
-use Rattle.std.proofs.Common.{◌≡◌, ◌+◌, ◌≤◌, true, false, refl, sym, ◌∙◌, arith, IsTrue}
+use Rattle.std.proofs.Common.{◌≡◌, ◌+◌, true, false, refl, sym, ◌∙◌, arith, IsTrue}
 use Rattle.tm_trustee.specs.Serving.{ups_of}
 use Rattle.tm_trustee.proofs.Keeping.{keeps_none}
 use Rattle.tm_trustee.proofs.TurningAbove.{none_moves}
@@ -9,7 +9,7 @@ use Rattle.tm_trustee.proofs.trustee.Trustee.say_byes.Goals as goal
 pub overflow_add-from : goal.overflow_add-from
 overflow_add-from g c =
     let few = turning.is_few g.P.PairTable.theory g.S.Entrusted.kind c.args.tables.now c.args.self.now c.requires in
-    let most : c.args.self.now.number ≤ 31 = few.number in omega (arith, most)
+    omega (arith, few.number)
 
 pub go_above-requires : goal.go_above-requires
 go_above-requires g c = record {

@@ -9,8 +9,7 @@ use Rattle.tm_trustee.proofs.trustee.Trustee.serve_table.Goals as goal
 pub overflow_add-places : goal.overflow_add-places
 overflow_add-places g c =
     let few = turning.is_few g.P.PairTable.theory g.S.Entrusted.kind c.args.tables.now c.args.self.now c.requires in
-    let number : c.args.self.now.number ≤ 31 = few.number in
-    let clients : c.args.self.now.clients ≤ 64 = few.clients in omega (arith, number, clients)
+    omega (arith, few.number, few.clients)
 
 pub bounds-tables-number : goal.bounds-tables-number
 bounds-tables-number g c = (turning.is_few g.P.PairTable.theory g.S.Entrusted.kind c.args.tables.now c.args.self.now c.requires).within
