@@ -1,5 +1,6 @@
 -- The plain store, one list of the items of all keys, and its runs over commands.
 use Rattle.std.specs.Prelude.{◌≡◌, ℕ, zero, suc, ◌≤◌, ◌⊎◌, not, nat_le, ◌==◌, if◌then◌else◌, List, [], ◌∷◌, map, Option, Some, None}
+use Rattle.mc_item.specs.declared.limits.TheConstants.{CLASSES}
 use Rattle.mc_item.specs.Classes.{class_of}
 use Rattle.mc_model.specs.declared.message.Command.{Command}
 use Rattle.mc_model.specs.declared.message.Command.TheVariants as command
@@ -113,8 +114,8 @@ AreParts p (part ∷ parts) moment q replies =
 -- a flush of all 64 classes; or memory was wanting, and so many of them are flushed, from the first on
 abbrev pub IsFlush : Plain → ℕ → ℕ → Plain → List ShardReply → Type 0
 IsFlush p delay moment q replies =
-    ((q ≡ plain_flushed_below 64 delay moment p) × (replies ≡ Flushed ∷ []))
-    ⊎ ((classes : ℕ) × (classes ≤ 64) × (q ≡ plain_flushed_below classes delay moment p) × (replies ≡ NoMemory ∷ []))
+    ((q ≡ plain_flushed_below CLASSES delay moment p) × (replies ≡ Flushed ∷ []))
+    ⊎ ((classes : ℕ) × (classes ≤ CLASSES) × (q ≡ plain_flushed_below classes delay moment p) × (replies ≡ NoMemory ∷ []))
 
 -- a count of all items and stores; or memory was wanting, and nothing has changed
 abbrev pub IsCount : Plain → ℕ → Plain → List ShardReply → Type 0
