@@ -2,6 +2,7 @@
 use Rattle.std.proofs.Common.{◌≡◌, ◌↔◌, ℕ, zero, suc, ◌+◌, ◌*◌, ◌≤◌, eqb, Bool, true, false, cond, List, [], ◌∷◌, ◌++◌, length, refl, sym, ap, subst, ◌∙◌, inl, inr, arith}
 use Rattle.std.proofs.lemmas.Bool.{cases_lt, eqb-true, eq-eqb}
 use Rattle.std.proofs.lemmas.List.{length-append}
+use Rattle.mc_item.specs.declared.limits.TheConstants.{LONGEST_LINE}
 use Rattle.mc_model.specs.declared.line.Header.{Header}
 use Rattle.mc_model.specs.declared.line.Saying.{Saying}
 use Rattle.mc_model.specs.declared.line.Saying.TheVariants.{Alone, Awaits}
@@ -53,8 +54,8 @@ no_rest (Alone y) rest c = c.0
 no_rest (Awaits h) rest c = absurd (stored_known h c.0 c.1 c.3)
 
 -- an unknown line is no longer than a line may be
-unknown_short : (bytes : List ℕ) → Spells bytes unknown → length bytes ≤ 65536
-unknown_short bytes s = elim (cases_lt 65536 (length s.line)) [
+unknown_short : (bytes : List ℕ) → Spells bytes unknown → length bytes ≤ LONGEST_LINE
+unknown_short bytes s = elim (cases_lt LONGEST_LINE (length s.line)) [
   | inl long ↦ absurd (short_saying (says s.line) s.rest (says_long s.line long) s.completes)
   | inr short ↦ omega (arith, ap length s.parts, length-append s.line s.rest, ap length (no_rest (says s.line) s.rest s.completes))
 ]
@@ -76,7 +77,7 @@ many_unknown held g (suc k) = (g (many k held) unknown).1 (many_unknown held g k
 
 -- bytes that lead from the start to the start are none
 pub goes_none : (held : List ℕ) → Goes Start held Start → held ≡ []
-goes_none held g = none_of_length held (omega (arith, unknown_short (many 65536 held) (many_unknown held g 65536), length-many 65536 held))
+goes_none held g = none_of_length held (omega (arith, unknown_short (many LONGEST_LINE held) (many_unknown held g LONGEST_LINE), length-many LONGEST_LINE held))
 
 -- a line of which nothing was taken has no front
 pub none_held : (front : List ℕ) → Goes Start [] (Line front) → front ≡ []

@@ -7,3 +7,4 @@ pub mod Between
 pub mod ReadFacts
 pub mod Piecewise
 pub mod Plainly
+mod Cases

@@ -3,6 +3,7 @@ use Rattle.std.proofs.Common.{◌≡◌, ℕ, ◌-◌, ◌<◌, ◌≤◌, ◌�
 use Rattle.std.specs.Str.{bytes_eq}
 use Rattle.std.proofs.lemmas.List.{append-nil, length-append}
 use Rattle.std.proofs.lemmas.Bool.{lt-ltb, le-ltb, ne_eqb}
+use Rattle.mc_item.specs.declared.limits.TheConstants.{LARGEST_VALUE, LONGEST_LINE}
 use Rattle.mc_model.specs.declared.line.Header.{Header}
 use Rattle.mc_model.specs.declared.line.Saying.TheVariants.{Alone, Awaits}
 use Rattle.mc_model.specs.declared.message.Command.TheVariants.{Store}
@@ -104,14 +105,14 @@ said_block line h l e more m = (
 
 -- ---- blocks
 
-large_is : (h : Header) (block tail : List ℕ) → 1048576 < h.size → stored h block tail ≡ message.Fault (TooLarge h.quiet)
-large_is h block tail lt = rw (lt-ltb 1048576 h.size lt) refl
+large_is : (h : Header) (block tail : List ℕ) → LARGEST_VALUE < h.size → stored h block tail ≡ message.Fault (TooLarge h.quiet)
+large_is h block tail lt = rw (lt-ltb LARGEST_VALUE h.size lt) refl
 
-small_is : (h : Header) (block tail : List ℕ) → h.size ≤ 1048576 → stored h block tail ≡ cond (bytes_eq tail (13 ∷ 10 ∷ [])) (message.Command (Store h.how h.key h.flags h.exptime block h.quiet)) (message.Fault (BadChunk h.quiet))
-small_is h block tail le = rw (le-ltb 1048576 h.size le) refl
+small_is : (h : Header) (block tail : List ℕ) → h.size ≤ LARGEST_VALUE → stored h block tail ≡ cond (bytes_eq tail (13 ∷ 10 ∷ [])) (message.Command (Store h.how h.key h.flags h.exptime block h.quiet)) (message.Fault (BadChunk h.quiet))
+small_is h block tail le = rw (le-ltb LARGEST_VALUE h.size le) refl
 
 -- a block that is too large is passed over
-pub block_large : (h : Header) (n : ℕ) → 1048576 < h.size → Goes (Block h ([], n)) [] (Pass (TooLarge h.quiet) n)
+pub block_large : (h : Header) (n : ℕ) → LARGEST_VALUE < h.size → Goes (Block h ([], n)) [] (Pass (TooLarge h.quiet) n)
 unfolding Goes
 block_large h n lt more m = (
   (λ f. (f.0, f.1, f.2, f.3 ∙ large_is h f.0 f.1 lt)),
@@ -166,29 +167,29 @@ pass_ends fault t l more m = (
 
 -- ---- long lines
 
-pub says_long : (line : List ℕ) → 65536 < length line → says line ≡ fails LineTooLong
+pub says_long : (line : List ℕ) → LONGEST_LINE < length line → says line ≡ fails LineTooLong
 unfolding says
-says_long line lt = rw (lt-ltb 65536 (length line) lt) refl
+says_long line lt = rw (lt-ltb LONGEST_LINE (length line) lt) refl
 
 line_positive : (l : List ℕ) → IsLine l → 0 < length l
 line_positive [] p = absurd p
 line_positive (x ∷ l) p = omega arith
 
 -- a front that is too long, whatever ends it
-pub line_too_long : (front : List ℕ) → HasNoEnd front → 65536 ≤ length front → Goes (Line front) [] (Pass LineTooLong 0)
+pub line_too_long : (front : List ℕ) → HasNoEnd front → LONGEST_LINE ≤ length front → Goes (Line front) [] (Pass LineTooLong 0)
 unfolding Goes
 line_too_long front h long more m = (
   (λ s. let k = line_past front more s.line s.rest h s.is_line (sym s.parts) in
-      let big : 65536 < length s.line = omega (arith, ap length k.1, length-append front k.0, line_positive k.0 k.3) in
+      let big : LONGEST_LINE < length s.line = omega (arith, ap length k.1, length-append front k.0, line_positive k.0 k.3) in
       let c = subst (λ r. Completes r s.rest m) (says_long s.line big) s.completes in
       ([], more, record { parts = refl; whole = refl; line = subst IsLine (sym (k.2 ∙ ap (λ r. k.0 ++ r) c.0 ∙ append-nil k.0)) k.3 }, c.1)),
   λ f. let s = no_block 0 more f.0 f.1 f.2 refl in
       let l : IsLine more = subst IsLine (sym s.1) f.2.line in
-      let big : 65536 < length (front ++ more) = omega (arith, length-append front more, line_positive more l) in
+      let big : LONGEST_LINE < length (front ++ more) = omega (arith, length-append front more, line_positive more l) in
       record { line = front ++ more; rest = []; parts = sym (append-nil (front ++ more)); is_line = line_after front more h l; completes = subst (λ r. Completes r [] m) (sym (says_long (front ++ more) big)) (refl, f.3) },
 )
 
-pub line_long_ends : (line : List ℕ) → IsLine line → 65536 < length line → Goes (Line line) [] (Ready (message.Fault LineTooLong))
+pub line_long_ends : (line : List ℕ) → IsLine line → LONGEST_LINE < length line → Goes (Line line) [] (Ready (message.Fault LineTooLong))
 line_long_ends line l lt = said_alone line (message.Fault LineTooLong) l (says_long line lt)
 
 -- ---- tails
@@ -202,7 +203,7 @@ at_end h v n e more m f =
 from_end : (h : Header) (v : List ℕ) (n : ℕ) → n ≡ 0 → (more : List ℕ) (m : Message) → IsLine more → m ≡ stored h v more → Finishes (Block h (v, n)) more m
 from_end h v n e more m l k = ([], more, record { parts = refl; whole = sym e; line = l }, k ∙ ap (λ b. stored h b more) (sym (append-nil v)))
 
-chunk_is : (h : Header) (v tail : List ℕ) → h.size ≤ 1048576 → bytes_eq tail (13 ∷ 10 ∷ []) ≡ false → stored h v tail ≡ message.Fault (BadChunk h.quiet)
+chunk_is : (h : Header) (v tail : List ℕ) → h.size ≤ LARGEST_VALUE → bytes_eq tail (13 ∷ 10 ∷ []) ≡ false → stored h v tail ≡ message.Fault (BadChunk h.quiet)
 chunk_is h v tail le e =
     small_is h v tail le ∙ ap (λ b. cond b (message.Command (Store h.how h.key h.flags h.exptime v h.quiet)) (message.Fault (BadChunk h.quiet))) e
 
@@ -215,7 +216,7 @@ line_tail b more n (inl p) = absurd (n p.0)
 line_tail b more n (inr p) = p.1
 
 -- a line feed alone
-pub tail_bare : (h : Header) (v : List ℕ) (n : ℕ) → n ≡ 0 → h.size ≤ 1048576 → Goes (Block h (v, n)) (10 ∷ []) (Ready (message.Fault (BadChunk h.quiet)))
+pub tail_bare : (h : Header) (v : List ℕ) (n : ℕ) → n ≡ 0 → h.size ≤ LARGEST_VALUE → Goes (Block h (v, n)) (10 ∷ []) (Ready (message.Fault (BadChunk h.quiet)))
 unfolding Goes
 tail_bare h v n e le more m = (
   (λ f. let g = at_end h v n e (10 ∷ more) m f in (not_line_ten more g.0, g.1 ∙ chunk_is h v (10 ∷ more) le refl)),
@@ -226,7 +227,7 @@ pub tail_returned : (h : Header) (v : List ℕ) (n : ℕ) → n ≡ 0 → Goes (
 unfolding Goes
 tail_returned h v n e more m = ((λ f. at_end h v n e (13 ∷ more) m f), λ f. from_end h v n e (13 ∷ more) m f.0 f.1)
 
-pub tail_other : (h : Header) (v : List ℕ) (n b : ℕ) → n ≡ 0 → h.size ≤ 1048576 → b ≢ 10 → b ≢ 13 → Goes (Block h (v, n)) (b ∷ []) (Pass (BadChunk h.quiet) 0)
+pub tail_other : (h : Header) (v : List ℕ) (n b : ℕ) → n ≡ 0 → h.size ≤ LARGEST_VALUE → b ≢ 10 → b ≢ 13 → Goes (Block h (v, n)) (b ∷ []) (Pass (BadChunk h.quiet) 0)
 unfolding Goes
 tail_other h v n b e le ten thirteen more m =
     let other : bytes_eq (b ∷ more) (13 ∷ 10 ∷ []) ≡ false = rw (ne_eqb b 13 thirteen) refl in (
@@ -236,7 +237,7 @@ tail_other h v n b e le ten thirteen more m =
           from_end h v n e (b ∷ more) m (inr (ten, subst IsLine (sym s.1) f.2.line)) (f.3 ∙ sym (chunk_is h v (b ∷ more) le other)),
     )
 
-pub tail_whole : (h : Header) (v : List ℕ) → h.size ≤ 1048576 → Goes (Returned h v) (10 ∷ []) (Ready (message.Command (Store h.how h.key h.flags h.exptime v h.quiet)))
+pub tail_whole : (h : Header) (v : List ℕ) → h.size ≤ LARGEST_VALUE → Goes (Returned h v) (10 ∷ []) (Ready (message.Command (Store h.how h.key h.flags h.exptime v h.quiet)))
 unfolding Goes
 tail_whole h v le more m =
     let by_tail : List ℕ → Message = λ k. cond (bytes_eq (13 ∷ 10 ∷ k) (13 ∷ 10 ∷ [])) (message.Command (Store h.how h.key h.flags h.exptime v h.quiet)) (message.Fault (BadChunk h.quiet)) in (
@@ -245,7 +246,7 @@ tail_whole h v le more m =
       λ f. (inr ((λ e. absurd (omega arith)), inl (refl, f.0)), f.1 ∙ sym (ap by_tail f.0) ∙ sym (small_is h v (13 ∷ 10 ∷ more) le)),
     )
 
-pub tail_late : (h : Header) (v : List ℕ) (b : ℕ) → h.size ≤ 1048576 → b ≢ 10 → Goes (Returned h v) (b ∷ []) (Pass (BadChunk h.quiet) 0)
+pub tail_late : (h : Header) (v : List ℕ) (b : ℕ) → h.size ≤ LARGEST_VALUE → b ≢ 10 → Goes (Returned h v) (b ∷ []) (Pass (BadChunk h.quiet) 0)
 unfolding Goes
 tail_late h v b le n more m =
     let other : bytes_eq (13 ∷ b ∷ more) (13 ∷ 10 ∷ []) ≡ false = rw (ne_eqb b 10 n) refl in (

@@ -1,11 +1,11 @@
 -- What of a message has come, by what is still to come.
 use Rattle.std.specs.Prelude.{◌≡◌, ◌≢◌, ℕ, ◌+◌, ◌<◌, ◌≤◌, List, [], ◌∷◌, ◌++◌, length, take}
+use Rattle.mc_item.specs.declared.limits.TheConstants.{LARGEST_VALUE, LONGEST_LINE}
 use Rattle.mc_model.specs.declared.message.Fault.{Fault}
 use Rattle.mc_model.specs.declared.message.Fault.TheVariants.{Unknown, BadLine, BadDelta, LineTooLong, BadChunk, TooLarge}
 use Rattle.mc_model.specs.declared.message.Message.{Message}
 use Rattle.mc_model.specs.declared.message.Message.TheVariants as message
-use Rattle.mc_model.specs.Rows.{most_length}
-use Rattle.mc_model.specs.Line.{IsLine, HasNoEnd, longest_line}
+use Rattle.mc_model.specs.Line.{IsLine, HasNoEnd}
 use Rattle.mc_model.specs.Stream.{Spells, IsBlock, stored}
 use Rattle.mc_grammar.specs.declared.progress.Progress.{Progress}
 use Rattle.mc_grammar.specs.declared.progress.Progress.TheVariants.{Line, Block, Returned, Pass, Ready}
@@ -31,17 +31,17 @@ IsPassed BadDelta = ⊥
 
 -- what a reader keeps true of itself
 abbrev pub IsSound : Progress → Type 0
-IsSound (Line front) = HasNoEnd front × (length front < longest_line)
-IsSound (Block h filling) = (h.size ≤ most_length) × (length filling.0 + filling.1 ≡ h.size)
-IsSound (Returned h value) = (h.size ≤ most_length) × (length value ≡ h.size)
+IsSound (Line front) = HasNoEnd front × (length front < LONGEST_LINE)
+IsSound (Block h filling) = (h.size ≤ LARGEST_VALUE) × (length filling.0 + filling.1 ≡ h.size)
+IsSound (Returned h value) = (h.size ≤ LARGEST_VALUE) × (length value ≡ h.size)
 IsSound (Pass fault left) = IsPassed fault
 IsSound (Ready whole) = Unit {0}
 
 -- what is kept of a message that is not whole, and the room for the rest of its value, are within the limits of a line and of a value
 abbrev pub IsBounded : Progress → Type 0
-IsBounded (Line front) = length front < longest_line
-IsBounded (Block h filling) = length filling.0 + filling.1 ≤ most_length
-IsBounded (Returned h value) = length value ≤ most_length
+IsBounded (Line front) = length front < LONGEST_LINE
+IsBounded (Block h filling) = length filling.0 + filling.1 ≤ LARGEST_VALUE
+IsBounded (Returned h value) = length value ≤ LARGEST_VALUE
 IsBounded (Pass fault left) = Unit {0}
 IsBounded (Ready whole) = Unit {0}
 

@@ -7,12 +7,9 @@ ghost use Rattle.mc_grammar.specs.Progress.{IsPassed, IsSound, Takes};
 use crate::ends::end_of_line;
 use crate::held::Filling;
 use crate::progress::Progress;
-use mc_item::Bytes;
+use mc_item::{Bytes, LARGEST_VALUE};
 use mc_model::{Command, Fault, Header, Message};
 use std::alloc::{AllocError, Global};
-
-/// The most bytes of a value.
-const LARGEST_VALUE: u32 = 1_048_576;
 
 // Passes over the bytes through a line end.
 fn skip_line(fault: Fault, from: &[u8]) -> (Progress, usize)
@@ -137,7 +134,7 @@ pub(crate) fn begin(
     ensures { IfOk result (λ r. Takes (Progress.Block header ([], header.size)) from.now r.0 r.1) }
 {
     let size = header.size as usize;
-    if header.size > LARGEST_VALUE {
+    if size > LARGEST_VALUE {
         let quiet = header.quiet;
         return Ok(skip(Fault::TooLarge { quiet }, size, from));
     }

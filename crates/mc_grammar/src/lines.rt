@@ -7,7 +7,8 @@ use crate::blocks::begin;
 use crate::ends::end_of_line;
 use crate::held::Front;
 use crate::progress::Progress;
-use mc_line::{LONGEST_LINE, saying_of};
+use mc_item::LONGEST_LINE;
+use mc_line::saying_of;
 use mc_model::{Fault, Message, Saying};
 use std::alloc::{AllocError, Global};
 

@@ -7,7 +7,7 @@ ghost use Rattle.mc_grammar.specs.Pieces.{IsReading};
 ghost use Rattle.mc_grammar.specs.Plain.{IsAwaited};
 
 use crate::pieces::Reading;
-use mc_item::Bytes;
+use mc_item::{Bytes, LARGEST_VALUE};
 use mc_line::saying_of;
 use mc_model::{Command, Fault, Header, Message, Saying};
 use std::alloc::{AllocError, Global};
@@ -29,7 +29,7 @@ fn stored(alloc: Global, header: Header, block: &[u8], tail: &[u8]) -> Result<Me
     ensures { IfOk result (λ m. m ≡ spec.stored header block.now tail.now) }
 {
     let quiet = header.quiet;
-    if header.size > 1_048_576 {
+    if header.size as usize > LARGEST_VALUE {
         return Ok(Message::Fault(Fault::TooLarge { quiet }));
     }
     if tail != b"\r\n".as_slice() {

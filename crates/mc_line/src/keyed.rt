@@ -4,14 +4,12 @@ ghost use Rattle.mc_model.specs.Commands as spec;
 
 use crate::saying::{asks, bad, fails};
 use crate::token::{is_zero, key_of, quiet_of};
+use mc_item::MOST_KEYS;
 use mc_item::number::{exptime, number};
 use mc_model::{Command, Fault, Keys, Saying};
 use std::alloc::{AllocError, Global};
 
-// The most keys of one `get`.
-const MOST_KEYS: usize = 1024;
-
-// Copies of tokens, where 1 to 1,024 of them are there and all are keys.
+// Copies of tokens, where 1 to `MOST_KEYS` of them are there and all are keys.
 fn keys_of(alloc: Global, tokens: &[&[u8]]) -> Result<Option<Keys>, AllocError>
     ensures { let keys = map (λ t. t.now) tokens.now in
         IfOk result (λ found. found ≡ (if spec.are_keys keys then Some keys else None)) }
@@ -29,7 +27,7 @@ fn keys_of(alloc: Global, tokens: &[&[u8]]) -> Result<Option<Keys>, AllocError>
     Ok(Some(keys))
 }
 
-/// `get` and `gets`: 1 to 1,024 keys.
+/// `get` and `gets`: 1 to [`MOST_KEYS`] keys.
 pub(crate) fn get_row(alloc: Global, with_cas: bool, tokens: &[&[u8]]) -> Result<Saying, AllocError>
     ensures { IfOk result (λ s. s ≡ spec.get_row with_cas (map (λ t. t.now) tokens.now)) }
 {

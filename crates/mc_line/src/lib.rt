@@ -8,4 +8,5 @@ mod storage;
 mod table;
 mod token;
 
-pub use table::{LONGEST_LINE, saying_of};
+pub use storage::MOST_DECLARED;
+pub use table::saying_of;

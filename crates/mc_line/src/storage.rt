@@ -8,8 +8,8 @@ use mc_item::number::{exptime, number};
 use mc_model::{Header, How, Saying};
 use std::alloc::{AllocError, Global};
 
-// The most bytes that a line may declare.
-const MOST_DECLARED: u32 = 2_147_483_647;
+/// The most bytes that a line may declare for its block.
+pub const MOST_DECLARED: u32 = 2_147_483_647;
 
 // The block that a line announces, if all its parts are lawful.
 fn announced(

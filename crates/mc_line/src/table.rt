@@ -8,11 +8,9 @@ use crate::other::{flush_row, plain_row, verbosity_row};
 use crate::saying::fails;
 use crate::storage::{cas_row, store_row};
 use crate::token::{body, tokens};
+use mc_item::LONGEST_LINE;
 use mc_model::{Command, Fault, How, Saying};
 use std::alloc::{AllocError, Global};
-
-/// The most bytes of a line, with its line feed.
-pub const LONGEST_LINE: usize = 65_536;
 
 fn other_row(name: &[u8], rest: &[&[u8]]) -> Saying
     ensures { result ≡ spec.other_row name.now (map (λ t. t.now) rest.now) }

@@ -15,7 +15,7 @@ use Rattle.mc_model.specs.Class.{Class}
 use Rattle.mc_model.specs.Plain.{Part}
 use Rattle.mc_model.specs.Showing.{is_no_memory, items_of, all_items_of}
 use Rattle.mc_laws.specs.Replies.{IsClassPart, AreClassParts}
-use Rattle.mc_session.specs.Answers.{IsAnswer, found_of}
+use Rattle.mc_session.specs.Answers.{IsAnswer, IsBegun, found_of}
 use Rattle.mc_session.proofs.Replies.{lacks_one}
 
 -- ---- the parts so far
@@ -25,6 +25,11 @@ part_more classes [] moment next replies part new r before here =
     (new, r, [], ap (λ (l : List ShardReply). l ++ r ∷ []) before.1, subst (λ (c : List Class). IsClassPart c part moment new r) before.0 here, (refl, refl))
 part_more classes (p ∷ parts) moment next replies part new r before here =
     (before.0, before.1, before.2 ++ r ∷ [], ap (λ (l : List ShardReply). l ++ r ∷ []) before.3, before.4, part_more before.0 parts moment next before.2 part new r before.5 here)
+
+-- a key more
+gets_more : (initial : List Class) (keys : List (List ℕ)) (moment : ℕ) (classes : List Class) (replies : List ShardReply) (key : List ℕ) (new : List Class) (r : ShardReply) → AreClassParts initial (map (λ k. (k, Get)) keys) moment classes replies → IsClassPart classes (key, Get) moment new r → AreClassParts initial (map (λ k. (k, Get)) (keys ++ key ∷ [])) moment new (replies ++ r ∷ [])
+gets_more initial keys moment classes replies key new r before here =
+    subst (λ (parts : List Part). AreClassParts initial parts moment new (replies ++ r ∷ [])) (sym (map_push (λ k. (k, Get)) keys key)) (part_more initial (map (λ k. (k, Get)) keys) moment classes replies (key, Get) new r before here)
 
 -- ---- the items so far
 
@@ -87,7 +92,7 @@ or_second false b e = e
 pub got_more : (initial : List Class) (keys : List (List ℕ)) (moment : ℕ) (classes : List Class) (items : List ShownItem) (lacks : Bool) (key : List ℕ) (new : List Class) (r : ShardReply) (items_new : List ShownItem) (lacks_new : Bool) → GotSoFar initial keys moment classes items lacks → IsClassPart classes (key, Get) moment new r → lacks_new ≡ (lacks || is_no_memory r) → (lacks_new ≡ false → items_new ≡ items ++ found_of key r) → GotSoFar initial (keys ++ key ∷ []) moment new items_new lacks_new
 got_more initial keys moment classes items lacks key new r items_new lacks_new before here lacks_is items_is = record {
   replies = before.replies ++ r ∷ [];
-  parts = subst (λ (parts : List Part). AreClassParts initial parts moment new (before.replies ++ r ∷ [])) (sym (map_push (λ k. (k, Get)) keys key)) (part_more initial (map (λ k. (k, Get)) keys) moment classes before.replies (key, Get) new r before.parts here);
+  parts = gets_more initial keys moment classes before.replies key new r before.parts here;
   lacks_is = lacks_is ∙ ap (λ b. b || is_no_memory r) before.lacks_is ∙ sym (any_more before.replies r);
   items_are = λ h.
       let both_not : (lacks || is_no_memory r) ≡ false = sym lacks_is ∙ h in
@@ -109,4 +114,24 @@ got_all initial keys moment classes items lacks with_cas got h = record {
   replies = got.replies;
   reply = got.parts;
   shows = rw (sym got.lacks_is ∙ h) (rw (got.items_are h) refl);
+}
+
+-- ---- where memory was wanting for a copy
+
+-- the first keys were asked for, and others were not
+pub got_front : (initial : List Class) (keys others all : List (List ℕ)) (moment : ℕ) (classes : List Class) (items : List ShownItem) (lacks with_cas : Bool) → GotSoFar initial keys moment classes items lacks → all ≡ keys ++ others → IsBegun initial (command.Get all with_cas) moment classes
+got_front initial keys others all moment classes items lacks with_cas got is = record {
+  begun = command.Get keys with_cas;
+  is_front = inr (keys, others, with_cas, refl, ap (λ (l : List (List ℕ)). command.Get l with_cas) is);
+  replies = got.replies;
+  reply = got.parts;
+}
+
+-- the first keys were asked for, then one more, and others were not
+pub got_front_more : (initial : List Class) (keys : List (List ℕ)) (key : List ℕ) (others all : List (List ℕ)) (moment : ℕ) (classes : List Class) (items : List ShownItem) (lacks with_cas : Bool) (new : List Class) (r : ShardReply) → GotSoFar initial keys moment classes items lacks → IsClassPart classes (key, Get) moment new r → all ≡ keys ++ key ∷ others → IsBegun initial (command.Get all with_cas) moment new
+got_front_more initial keys key others all moment classes items lacks with_cas new r got here is = record {
+  begun = command.Get (keys ++ key ∷ []) with_cas;
+  is_front = inr (keys ++ key ∷ [], others, with_cas, refl, ap (λ (l : List (List ℕ)). command.Get l with_cas) (is ∙ sym (append_assoc keys (key ∷ []) others)));
+  replies = got.replies ++ r ∷ [];
+  reply = gets_more initial keys moment classes got.replies key new r got.parts here;
 }

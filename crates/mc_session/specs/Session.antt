@@ -1,5 +1,5 @@
 -- What a session has, and what it makes of a message.
-use Rattle.std.specs.Prelude.{◌≡◌, ℕ, ◌≤◌, List, [], ◌∷◌, ◌++◌, length, Option, refl}
+use Rattle.std.specs.Prelude.{◌≡◌, ℕ, List, [], ◌∷◌, ◌++◌, Option, refl}
 use Rattle.std.specs.Coded.{Coded, code_by, coded×, coded_ℕ, coded_list}
 use Rattle.tm_base.specs.Visible.{Grows}
 use Rattle.mc_model.specs.declared.message.Command.{Command}
@@ -11,6 +11,7 @@ use Rattle.mc_model.specs.Showing.{shown_of}
 use Rattle.mc_model.specs.Rendering.{bytes_of}
 use Rattle.mc_laws.specs.Classes.{new_classes}
 use Rattle.mc_laws.specs.Replies.{ClassesReply}
+use Rattle.mc_session.specs.Answers.{IsBegun}
 
 -- the states of the 64 classes, the greatest moment so far, and the bytes that are still to be written
 pub record Serving : Type 0 where
@@ -44,9 +45,11 @@ pub record Answered (old : Serving) (command : Command) (clock clock_new : Optio
   pub reply : ClassesReply old.classes command new.moment new.classes replies
   pub shows : new.out ≡ old.out ++ bytes_of (shown_of command replies)
 
--- Memory was wanting: the bytes that are still to be written stay, and the clock was read at most once.
-pub record GaveUp (old : Serving) (clock clock_new : Option (List ℕ)) (new : Serving) : Type 0 where
-  pub readings : List ℕ
-  pub once : length readings ≤ 1
-  pub is_read : Grows clock clock_new readings
+-- Memory was wanting: the clock was read once, and at the moment that it leaves the classes replied to the command, or to a `get` of
+-- the first of its keys. The bytes that are still to be written stay.
+pub record GaveUp (old : Serving) (command : Command) (clock clock_new : Option (List ℕ)) (new : Serving) : Type 0 where
+  pub reading : ℕ
+  pub is_read : Grows clock clock_new (reading ∷ [])
+  pub moment : new.moment ≡ latest old.moment reading
+  pub begun : IsBegun old.classes command new.moment new.classes
   pub out : new.out ≡ old.out

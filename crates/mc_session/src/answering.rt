@@ -1,6 +1,6 @@
 //! One command: what is asked for it, and what it shows.
-ghost use Rattle.std.specs.Prelude.{IfOk};
-ghost use Rattle.mc_session.specs.Answers.{IsAnswer};
+ghost use Rattle.std.specs.Prelude.{IfOk, OnErr};
+ghost use Rattle.mc_session.specs.Answers.{IsAnswer, IsBegun};
 
 use crate::asking::Asking;
 use crate::showing::{
@@ -11,15 +11,17 @@ use std::alloc::{AllocError, Global};
 use tm_base::Gate;
 
 impl Asking {
-    /// Asks the classes what a command asks for, and says what it shows.
-    pub fn answer<G: Gate>(
+    /// Asks the classes what a command asks for, and says what it shows. An `Err`, for want of memory, has asked for all,
+    /// or of a `get` for the first of its keys.
+    pub(crate) fn answer<G: Gate>(
         &mut self,
         alloc: Global,
         command: Command,
         moment: u64,
         gate: &G,
     ) -> Result<Shown, AllocError>
-        ensures { IfOk result (λ shown. IsAnswer self.old command moment self.new shown) }
+        ensures ok { IfOk result (λ shown. IsAnswer self.old command moment self.new shown) }
+        ensures err { OnErr result (IsBegun self.old command moment self.new) }
     {
         match command {
             Command::Store {

@@ -15,7 +15,7 @@ use tm_base::Gate;
 /// A trustee, and the slot of its one client, which is empty between two calls. It is seen as the states of the 64
 /// classes.
 #[derive(Drop)]
-pub struct Asking {
+pub(crate) struct Asking {
     slot: Slot,
     trustee: Trustee,
 }
@@ -37,7 +37,7 @@ impl Model for Asking {
 
 impl Asking {
     /// A trustee that owns 64 empty classes, and an empty slot.
-    pub fn new(alloc: Global) -> Result<Asking, AllocError>
+    pub(crate) fn new(alloc: Global) -> Result<Asking, AllocError>
         ensures { IfOk result (λ a. a ≡ new_classes) }
     {
         let trustee = Trustee::new(alloc)?;
@@ -48,7 +48,7 @@ impl Asking {
     }
 
     /// Asks an operation of a class: publishes it, lets the trustee serve the slot, and collects the reply.
-    pub fn ask<G: Gate>(&mut self, class: u32, op: ShardOp, gate: &G) -> ShardReply
+    pub(crate) fn ask<G: Gate>(&mut self, class: u32, op: ShardOp, gate: &G) -> ShardReply
         requires { class < 64 }
         ensures asked { IsAsked self.old class op self.new result }
         ensures count { length self.old ≡ 64 }

@@ -22,7 +22,7 @@ fn counts_of(reply: ShardReply) -> Option<(u64, u64)>
 impl Asking {
     /// Counts the items and the stores of the classes, in the order of their numbers. A sum stands still at
     /// `u64::MAX`. It stops at the first for which memory is wanting.
-    pub fn count_all<G: Gate>(&mut self, moment: u64, gate: &G) -> ShardReply
+    pub(crate) fn count_all<G: Gate>(&mut self, moment: u64, gate: &G) -> ShardReply
         ensures { AreCounted self.old moment self.new (result ∷ []) }
     {
         let mut held: u64 = 0;

@@ -19,7 +19,7 @@ fn lacks_memory(reply: ShardReply) -> bool
 impl Asking {
     /// Flushes the classes in the order of their numbers, at once or after so many seconds. It stops at the first
     /// for which memory is wanting.
-    pub fn flush_all<G: Gate>(&mut self, delay: u32, moment: u64, gate: &G) -> ShardReply
+    pub(crate) fn flush_all<G: Gate>(&mut self, delay: u32, moment: u64, gate: &G) -> ShardReply
         ensures { AreFlushed self.old delay moment self.new (result ∷ []) }
     {
         for class in 0..CLASSES {

@@ -1,8 +1,8 @@
 //! `get`: the items of some keys.
-ghost use Rattle.std.specs.Prelude.{◌≡◌, ◌++◌, ◌||◌, false, IfOk, OnOk};
+ghost use Rattle.std.specs.Prelude.{◌≡◌, ◌++◌, ◌||◌, false, IfOk, OnOk, OnErr};
 ghost use Rattle.mc_model.specs.declared.message.Command.TheVariants as command;
 ghost use Rattle.mc_model.specs.Showing.{is_no_memory};
-ghost use Rattle.mc_session.specs.Answers.{IsAnswer, found_of};
+ghost use Rattle.mc_session.specs.Answers.{IsAnswer, IsBegun, found_of};
 
 use crate::asking::Asking;
 use mc_item::Key;
@@ -44,8 +44,8 @@ impl Found {
 
 impl Asking {
     /// Asks for the items of the keys, one after another. A key without an item is not shown. Where memory was wanting
-    /// for one of them, that alone is shown.
-    pub fn get_all<G: Gate>(
+    /// for one of them, that alone is shown. An `Err`, for want of memory, has asked for the first of the keys.
+    pub(crate) fn get_all<G: Gate>(
         &mut self,
         alloc: Global,
         keys: Keys,
@@ -53,7 +53,8 @@ impl Asking {
         moment: u64,
         gate: &G,
     ) -> Result<Shown, AllocError>
-        ensures { IfOk result (λ shown. IsAnswer self.old (command.Get keys with_cas) moment self.new shown) }
+        ensures ok { IfOk result (λ shown. IsAnswer self.old (command.Get keys with_cas) moment self.new shown) }
+        ensures err { OnErr result (IsBegun self.old (command.Get keys with_cas) moment self.new) }
     {
         let mut found = Found {
             items: ShownItems::new(alloc),

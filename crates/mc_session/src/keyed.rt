@@ -10,7 +10,7 @@ use tm_base::Gate;
 
 impl Asking {
     /// Asks for a storage command.
-    pub fn store<G: Gate>(
+    pub(crate) fn store<G: Gate>(
         &mut self,
         how: How,
         key: Key,
@@ -35,7 +35,7 @@ impl Asking {
     }
 
     /// Asks for the item of a key.
-    pub fn get<G: Gate>(&mut self, key: Key, moment: u64, gate: &G) -> ShardReply
+    pub(crate) fn get<G: Gate>(&mut self, key: Key, moment: u64, gate: &G) -> ShardReply
         ensures { IsClassPart self.old (key, Get) moment self.new result }
     {
         let class = class_of(&key);
@@ -43,7 +43,7 @@ impl Asking {
     }
 
     /// Asks for an `incr` where `up`, else for a `decr`.
-    pub fn change<G: Gate>(
+    pub(crate) fn change<G: Gate>(
         &mut self,
         up: bool,
         key: Key,
@@ -64,7 +64,13 @@ impl Asking {
     }
 
     /// Asks that an item goes at another moment.
-    pub fn touch<G: Gate>(&mut self, key: Key, exptime: i64, moment: u64, gate: &G) -> ShardReply
+    pub(crate) fn touch<G: Gate>(
+        &mut self,
+        key: Key,
+        exptime: i64,
+        moment: u64,
+        gate: &G,
+    ) -> ShardReply
         ensures { IsClassPart self.old (key, Touch exptime) moment self.new result }
     {
         let class = class_of(&key);
@@ -77,7 +83,7 @@ impl Asking {
     }
 
     /// Asks that the item of a key goes.
-    pub fn delete<G: Gate>(&mut self, key: Key, moment: u64, gate: &G) -> ShardReply
+    pub(crate) fn delete<G: Gate>(&mut self, key: Key, moment: u64, gate: &G) -> ShardReply
         ensures { IsClassPart self.old (key, Delete) moment self.new result }
     {
         let class = class_of(&key);

@@ -14,7 +14,7 @@ mod showing;
 mod slot;
 mod trustee;
 
-pub use session::Session;
+pub use session::{FULL, Session};
 
 #[cfg(test)]
 mod tests;

@@ -5,8 +5,8 @@ use mc_shard::ShardOp;
 
 /// An operation, and the number of the class that it is for.
 #[derive(Drop)]
-pub struct Request {
-    pub class: u32,
-    pub op: ShardOp,
-    pub ghost in_range: { class < 64 },
+pub(crate) struct Request {
+    pub(crate) class: u32,
+    pub(crate) op: ShardOp,
+    pub(crate) ghost in_range: { class < 64 },
 }

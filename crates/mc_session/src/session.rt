@@ -8,18 +8,15 @@ ghost use Rattle.mc_session.specs.Session.{first_serving, with_shown, Answered, 
 
 use crate::asking::Asking;
 use crate::showing::fault_shown;
-use mc_item::Bytes;
+use mc_item::{Bytes, LATEST_TIME};
 use mc_model::{Command, Fault};
 use mc_reply::render;
 use std::alloc::{AllocError, Global};
 use std::marker::Model;
 use tm_base::{Clock, Failed, Gate, Sink, write_all};
 
-/// A reading of the clock above this counts as this.
-const LATEST: u64 = 1 << 62;
-
-/// So many bytes are gathered, at most one reply more, before they are written.
-const FULL: usize = 65_536;
+/// Where at least so many bytes are gathered, they are to be written: an output is full then.
+pub const FULL: usize = 65_536;
 
 /// What a session has: the classes, its moment, and the bytes that are still to be written. It is seen as these.
 pub struct Session {
@@ -77,7 +74,7 @@ impl Session {
             × (result ≡ latest self.old.moment reading) }
     {
         let reading = clock.now();
-        self.moment = self.moment.max(reading.min(LATEST));
+        self.moment = self.moment.max(reading.min(LATEST_TIME));
         self.moment
     }
 
@@ -86,7 +83,8 @@ impl Session {
     ///
     /// Each operation passes the gate as `at(1, n)`, where `n` of them were run before: one for each key, 64 for
     /// `flush_all` and for `stats` unless memory is wanting, and none for `version`, `verbosity` and `quit`. A value is
-    /// copied once, out of its item. An `Err`, for want of memory, leaves the bytes that are still to be written.
+    /// copied once, out of its item. An `Err`, for want of memory, leaves the bytes that are still to be written; the clock
+    /// is read, and the classes have replied to the command, or to a `get` of the first of its keys.
     pub fn answer<W: Clock, G: Gate>(
         &mut self,
         command: Command,
@@ -94,7 +92,7 @@ impl Session {
         gate: &G,
     ) -> Result<(), AllocError>
         ensures ok { OnOk result (Answered self.old command (W.readings clock.old) (W.readings clock.new) self.new) }
-        ensures err { OnErr result (GaveUp self.old (W.readings clock.old) (W.readings clock.new) self.new) }
+        ensures err { OnErr result (GaveUp self.old command (W.readings clock.old) (W.readings clock.new) self.new) }
     {
         let moment = self.tick(clock);
         let shown = self.asking.answer(self.alloc, command, moment, gate)?;
@@ -110,18 +108,20 @@ impl Session {
         render(&fault_shown(fault), &mut self.out)
     }
 
-    /// Whether at least 65,536 bytes are gathered.
+    /// Whether at least [`FULL`] bytes are gathered.
     pub fn is_full(&self) -> bool
-        ensures { IsTrue result ↔ (65536 ≤ length self.now.out) }
+        ensures { IsTrue result ↔ (FULL ≤ length self.now.out) }
     {
         self.out.len() >= FULL
     }
 
-    /// Writes the gathered bytes. An `Err` has written a front of them.
+    /// Writes the gathered bytes. An `Err` has written a front of them, and keeps them all: what is written then is not
+    /// to be written again.
     pub fn write_out<B: Sink>(&mut self, output: &mut B) -> Result<(), Failed>
         ensures ok { OnOk result (Grows (B.written output.old) (B.written output.new) self.old.out) }
         ensures err { OnErr result (GrowsByFront (B.written output.old) (B.written output.new) self.old.out) }
         ensures out { OnOk result (self.new.out ≡ []) }
+        ensures kept { OnErr result (self.new.out ≡ self.old.out) }
         ensures classes { self.new.classes ≡ self.old.classes }
         ensures moment { self.new.moment ≡ self.old.moment }
         ensures cause { HasCause (B.faults output.old) (B.faults output.new) result }

@@ -6,7 +6,7 @@ ghost use Rattle.mc_session.specs.Answers.{one_shown};
 use mc_model::{Fault, How, Said, ShardReply, Shown};
 
 /// A line, or nothing where the command or the fault is quiet.
-pub fn shown_unless(quiet: bool, said: Said) -> Shown
+pub(crate) fn shown_unless(quiet: bool, said: Said) -> Shown
     ensures { result ≡ unless_quiet quiet said }
 {
     if quiet {
@@ -17,7 +17,7 @@ pub fn shown_unless(quiet: bool, said: Said) -> Shown
 }
 
 /// What the reply to a storage command shows.
-pub fn store_shown(how: How, quiet: bool, reply: ShardReply) -> Shown
+pub(crate) fn store_shown(how: How, quiet: bool, reply: ShardReply) -> Shown
     ensures { result ≡ one_shown quiet (λ r. Shown.Line (store_says how r)) reply }
 {
     let said = match (how, &reply) {
@@ -36,7 +36,7 @@ pub fn store_shown(how: How, quiet: bool, reply: ShardReply) -> Shown
 }
 
 /// What the reply to an `incr` or `decr` shows.
-pub fn change_shown(quiet: bool, reply: ShardReply) -> Shown
+pub(crate) fn change_shown(quiet: bool, reply: ShardReply) -> Shown
     ensures { result ≡ one_shown quiet change_shows reply }
 {
     let said = match reply {
@@ -52,7 +52,7 @@ pub fn change_shown(quiet: bool, reply: ShardReply) -> Shown
 }
 
 /// What the reply to a `touch` shows.
-pub fn touch_shown(quiet: bool, reply: ShardReply) -> Shown
+pub(crate) fn touch_shown(quiet: bool, reply: ShardReply) -> Shown
     ensures { result ≡ one_shown quiet (λ r. Shown.Line (touch_says r)) reply }
 {
     let said = match reply {
@@ -65,7 +65,7 @@ pub fn touch_shown(quiet: bool, reply: ShardReply) -> Shown
 }
 
 /// What the reply to a `delete` shows.
-pub fn delete_shown(quiet: bool, reply: ShardReply) -> Shown
+pub(crate) fn delete_shown(quiet: bool, reply: ShardReply) -> Shown
     ensures { result ≡ one_shown quiet (λ r. Shown.Line (delete_says r)) reply }
 {
     let said = match reply {
@@ -78,7 +78,7 @@ pub fn delete_shown(quiet: bool, reply: ShardReply) -> Shown
 }
 
 /// What the reply to a `flush_all` shows.
-pub fn flush_shown(quiet: bool, reply: ShardReply) -> Shown
+pub(crate) fn flush_shown(quiet: bool, reply: ShardReply) -> Shown
     ensures { result ≡ one_shown quiet (λ r. Shown.Line (flush_says r)) reply }
 {
     let said = match reply {
@@ -90,7 +90,7 @@ pub fn flush_shown(quiet: bool, reply: ShardReply) -> Shown
 }
 
 /// What the reply to `stats` shows.
-pub fn stats_shown(reply: ShardReply) -> Shown
+pub(crate) fn stats_shown(reply: ShardReply) -> Shown
     ensures { result ≡ one_shown false stats_shows reply }
 {
     match reply {
@@ -101,7 +101,7 @@ pub fn stats_shown(reply: ShardReply) -> Shown
 }
 
 /// What a fault shows.
-pub fn fault_shown(fault: Fault) -> Shown
+pub(crate) fn fault_shown(fault: Fault) -> Shown
     ensures { result ≡ shown_of_fault fault }
 {
     match fault {

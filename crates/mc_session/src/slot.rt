@@ -11,7 +11,7 @@ use std::mem::replace;
 
 /// What is in a slot.
 #[derive(Drop)]
-pub enum Content {
+pub(crate) enum Content {
     Empty,
     Asked(Request),
     Answered(ShardReply),
@@ -19,7 +19,7 @@ pub enum Content {
 
 /// A slot with its two words.
 #[derive(Drop)]
-pub struct Slot {
+pub(crate) struct Slot {
     request_word: bool,
     response_word: bool,
     content: Content,
@@ -27,7 +27,7 @@ pub struct Slot {
 
 impl Slot {
     /// An empty slot, which is the client's.
-    pub fn new() -> Slot
+    pub(crate) fn new() -> Slot
         ensures { IsSlot false Content.Empty result }
     {
         Slot {
@@ -38,7 +38,7 @@ impl Slot {
     }
 
     /// Publishes a request. From here on the slot is the trustee's.
-    pub fn publish(&mut self, request: Request)
+    pub(crate) fn publish(&mut self, request: Request)
         requires { IsSlot false Content.Empty self.old }
         ensures { IsSlot true (Content.Asked request) self.new }
     {
@@ -47,7 +47,7 @@ impl Slot {
     }
 
     /// Takes out the request that was published, where the slot is the trustee's.
-    pub fn see(&mut self) -> Option<Request>
+    pub(crate) fn see(&mut self) -> Option<Request>
         ensures { Sees self.old result self.new }
     {
         if self.request_word == self.response_word {
@@ -63,7 +63,7 @@ impl Slot {
     }
 
     /// Answers the request that was seen. From here on the slot is the client's.
-    pub fn answer(&mut self, reply: ShardReply)
+    pub(crate) fn answer(&mut self, reply: ShardReply)
         requires { IsSlot true Content.Empty self.old }
         ensures { IsSlot false (Content.Answered reply) self.new }
     {
@@ -72,7 +72,7 @@ impl Slot {
     }
 
     /// Takes out the reply, where the slot is the client's.
-    pub fn collect(&mut self) -> Option<ShardReply>
+    pub(crate) fn collect(&mut self) -> Option<ShardReply>
         ensures { Collects self.old result self.new }
     {
         if self.request_word != self.response_word {

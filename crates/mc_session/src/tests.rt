@@ -1,12 +1,15 @@
 //! Sessions of commands, and what they show, by memcached's protocol.txt and the rules of this store.
 
+ghost use Rattle.std.specs.Prelude.{None};
+
+mod limits;
+
 use crate::Session;
 use mc_item::{Bytes, Key};
 use mc_model::{Command, Fault, How, Keys};
 use std::alloc::Global;
-use std::cell::Cell;
 use std::test::Fail;
-use tm_base::{Clock, FreeGate, Gate, MemClock, MemSink};
+use tm_base::{Clock, CountingGate, FreeGate, MemClock, MemSink};
 
 // The commands of a session, one behind another with `|` between them, each at a reading of its own, where the last
 // reading counts for all after it. A value stands in its command's line, and `!` behind a name is `noreply`.
@@ -252,27 +255,10 @@ fn faults(rt: HostRuntime) -> Result<(), Fail> {
     Ok(())
 }
 
-/// A gate that counts what passes, and whether each comes with trustee 1 and its own number.
-#[derive(Drop)]
-struct CountingGate {
-    passed: Cell<u64>,
-    in_order: Cell<bool>,
-}
-
-impl Gate for CountingGate {
-    fn at(&self, trustee: u32, number: u64) {
-        self.in_order.set(self.in_order.get() && trustee == 1 && number == self.passed.get());
-        self.passed.set(self.passed.get().saturating_add(1));
-    }
-}
-
 #[test]
 fn each_operation_passes_the_gate(rt: HostRuntime) -> Result<(), Fail> {
     let alloc = rt.alloc();
-    let gate = CountingGate {
-        passed: Cell::new(0),
-        in_order: Cell::new(true),
-    };
+    let gate = CountingGate::new(1);
     let mut session = Session::new(alloc)?;
     let mut clock = MemClock::new(vec![in alloc; 10, 11, 12, 13, 14, 15, 16, 17, 18]?);
     let asked: [(&str, u64); 8] = [
@@ -287,49 +273,57 @@ fn each_operation_passes_the_gate(rt: HostRuntime) -> Result<(), Fail> {
     ];
     for (ask, passed) in asked {
         session.answer(command_of(alloc, ask)?, &mut clock, &gate)?;
-        assert_eq!(rt; gate.passed.get(), passed, "after {ask}");
+        assert_eq!(rt; gate.passed(), passed, "after {ask}");
     }
-    assert!(rt; gate.in_order.get());
+    assert!(rt; gate.is_in_order());
     // Each command has read the clock, once.
     assert_eq!(rt; clock.now(), 18);
     Ok(())
 }
 
-// A store of so many bytes of `x` in the key `a`.
-fn large(alloc: Global, how: How, length: usize) -> Result<Command, Fail> {
-    Ok(Command::Store {
-        how,
-        key: key_of(alloc, "a")?,
-        flags: 0,
-        exptime: 0,
-        value: Bytes::from(vec![in alloc; b'x'; length]?),
-        quiet: false,
-    })
+/// A clock that does not tell its readings, which are 10, 11, 12 and so on.
+#[derive(Drop)]
+struct SilentClock {
+    readings: u64,
 }
 
+impl Clock for SilentClock {
+    ghost readings = { λ _. None };
+
+    fn now(&mut self) -> u64 {
+        self.readings = self.readings.saturating_add(1);
+        self.readings.saturating_add(9)
+    }
+}
+
+// A clock that does not tell its readings is read once for each command too, and that reading counts.
 #[test]
-fn large_values_fill_the_output(rt: HostRuntime) -> Result<(), Fail> {
+fn each_command_reads_a_silent_clock_once(rt: HostRuntime) -> Result<(), Fail> {
     let alloc = rt.alloc();
     let mut session = Session::new(alloc)?;
-    let mut clock = MemClock::new(Vec::new(alloc));
-    for (how, length) in [
-        (How::Set, 1_048_576),
-        (How::Set, 1_048_577),
-        (How::Append, 1),
-    ] {
-        session.answer(large(alloc, how, length)?, &mut clock, &FreeGate)?;
+    let mut clock = SilentClock { readings: 0 };
+    // Each command, and the readings after it.
+    let asked: [(&str, u64); 9] = [
+        ("set a 0 3 x", 1),
+        ("get a b c", 2),
+        ("incr n 1", 3),
+        ("get a", 4),
+        ("stats", 5),
+        ("flush_all! 0", 6),
+        ("version", 7),
+        ("verbosity! 1", 8),
+        ("quit", 9),
+    ];
+    for (ask, readings) in asked {
+        session.answer(command_of(alloc, ask)?, &mut clock, &FreeGate)?;
+        assert_eq!(rt; clock.readings, readings, "after {ask}");
     }
-    assert!(rt; !session.is_full());
+    session.show_fault(Fault::Unknown)?;
+    assert_eq!(rt; clock.readings, 9);
+    // Set at 10 for 3 seconds, the item is there at 11 and gone at 13.
     let shown = written(alloc, &mut session)?;
-    let large = "SERVER_ERROR object too large for cache\r\n";
-    let lines = format!(in alloc; "STORED\r\n{large}{large}")?;
-    assert!(rt; shown.as_slice() == lines.as_bytes());
-    session.answer(command_of(alloc, "get a")?, &mut clock, &FreeGate)?;
-    assert!(rt; session.is_full());
-    let shown = written(alloc, &mut session)?;
-    assert!(rt; shown.starts_with(b"VALUE a 0 1048576\r\nxxx"));
-    assert!(rt; shown.ends_with(b"xxx\r\nEND\r\n"));
-    assert_eq!(rt; shown.len(), 19 + 1_048_576 + 7);
-    assert!(rt; !session.is_full());
+    let shows = "STORED\r\nVALUE a 0 1\r\nx\r\nEND\r\nNOT_FOUND\r\nEND\r\n\
+        STAT curr_items 0\r\nSTAT total_items 1\r\nEND\r\nVERSION 1.0.0-trust\r\nERROR\r\n";
+    assert!(rt; shown.as_slice() == shows.as_bytes());
     Ok(())
 }

@@ -17,7 +17,7 @@ const NUMBER: u32 = 1;
 /// A trustee: the 64 classes that it owns, in the order of their numbers, and how many requests it has run. It is
 /// seen as the states of the classes.
 #[derive(Drop)]
-pub struct Trustee {
+pub(crate) struct Trustee {
     shards: Vec<Shard>,
     ran: u64,
 }
@@ -49,7 +49,7 @@ fn new_shards(alloc: Global) -> Result<Vec<Shard>, AllocError>
 
 impl Trustee {
     /// A trustee of 64 empty classes that has run no request.
-    pub fn new(alloc: Global) -> Result<Trustee, AllocError>
+    pub(crate) fn new(alloc: Global) -> Result<Trustee, AllocError>
         ensures { IfOk result (λ t. t ≡ new_classes) }
     {
         let shards = new_shards(alloc)?;
@@ -58,7 +58,7 @@ impl Trustee {
 
     /// Serves a slot: runs the operation that it finds there on its class, after it has passed the gate, and answers
     /// it.
-    pub fn serve<G: Gate>(&mut self, slot: &mut Slot, gate: &G)
+    pub(crate) fn serve<G: Gate>(&mut self, slot: &mut Slot, gate: &G)
         ensures served { IsServed slot.old self.old slot.new self.new }
         ensures count { length self.old ≡ 64 }
     {

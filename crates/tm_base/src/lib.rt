@@ -6,6 +6,7 @@
 #![tactic(auto)]
 
 mod clock;
+mod counting_gate;
 mod failed;
 mod fault_plan;
 mod free_gate;
@@ -21,6 +22,7 @@ mod system_clock;
 mod writing;
 
 pub use clock::Clock;
+pub use counting_gate::CountingGate;
 pub use failed::Failed;
 pub use fault_plan::FaultPlan;
 pub use free_gate::FreeGate;

@@ -4,8 +4,8 @@ ghost use Rattle.tm_base.specs.Visible.{Grows};
 ghost use Rattle.tm_base.specs.Memory.{next_reading, after_reading};
 
 use crate::clock::Clock;
-use tm_ghost::{GhostList, Items};
 use std::marker::{Brand, Model};
+use tm_ghost::{GhostList, Items};
 
 /// A clock that gives readings from memory, and repeats the last one.
 #[derive(Debug, Drop)]

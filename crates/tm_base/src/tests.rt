@@ -1,9 +1,9 @@
 //! The devices on worked cases.
-ghost use Rattle.std.specs.Prelude.{◌≤◌, IfOk};
+
+mod over_std;
 
 use super::*;
 use std::alloc::{AllocError, Global};
-use std::io;
 use std::test::Fail;
 
 // What a call answers: the bytes that it moved, or a failure.
@@ -214,12 +214,8 @@ fn read_clock<W: Clock>(clock: &mut W) -> u64 {
     clock.now()
 }
 
-fn pass<G: Gate>(gate: &G) {
-    gate.at(3, 7)
-}
-
 #[test]
-fn clocks_are_read_and_a_free_gate_is_passed(rt: HostRuntime) -> Result<(), Fail> {
+fn a_clock_in_memory_repeats_its_last_reading(rt: HostRuntime) -> Result<(), Fail> {
     let alloc = rt.alloc();
     let mut clock = MemClock::new([7, 3].to_vec(alloc)?);
     for want in [7, 3, 3, 3] {
@@ -228,107 +224,27 @@ fn clocks_are_read_and_a_free_gate_is_passed(rt: HostRuntime) -> Result<(), Fail
     let mut empty = MemClock::new(Vec::new(alloc));
     assert_eq!(rt; read_clock(&mut empty), 0);
     assert_eq!(rt; read_clock(&mut empty), 0);
-
-    // Between 2020 and 2200.
-    let now = read_clock(&mut SystemClock::new(&rt));
-    assert!(rt; 1_577_836_800 < now && now < 7_258_118_400, "{now}");
-
-    pass(&FreeGate);
     Ok(())
 }
 
-#[test]
-fn devices_over_std_pass_bytes_on(rt: HostRuntime) -> Result<(), Fail> {
-    let alloc = rt.alloc();
-    let mut source = StdSource::new("hello".as_bytes());
-    for want in ["hel", "lo", "", ""] {
-        let got = read_some(alloc, &mut source, 3)?;
-        assert!(rt; is_answer(&got, &Ok(want)), "{got:?} in place of {want}");
-    }
-    assert_eq!(rt; source.faults(), 0);
-    assert!(rt; source.into_inner().is_empty());
-
-    let mut sink = StdSink::new(Vec::new(alloc));
-    assert!(rt; write_all(&mut sink, b"hello").is_ok());
-    assert!(rt; write_all(&mut sink, b"").is_ok());
-    assert!(rt; sink.flush().is_ok());
-    assert_eq!(rt; sink.faults(), 0);
-    assert_eq!(rt; sink.into_inner().as_slice(), b"hello".as_slice());
-
-    // A writer with room for two bytes takes nothing more, which is a fault.
-    let mut room = [0; 2];
-    let mut full = StdSink::new(io::Cursor::new(&mut room[..]));
-    assert_eq!(rt; write_all(&mut full, b"abc"), Err(Failed));
-    assert_eq!(rt; full.faults(), 1);
-    assert_eq!(rt; full.write(b""), Ok(0));
-    let _ = full.into_inner();
-    assert_eq!(rt; room, [b'a', b'b']);
-    Ok(())
-}
-
-// A device of std that is interrupted, moves a byte, breaks and moves a byte, over and over.
-#[derive(Drop)]
-struct Shaky {
-    calls: u8,
-}
-
-impl Shaky {
-    fn answer(&mut self, room: usize) -> io::Result<usize>
-        ensures { IfOk result (λ n. n ≤ room) }
-    {
-        let call = self.calls % 4;
-        self.calls = call + 1;
-        match call {
-            0 => Err(io::Error::new(io::ErrorKind::Interrupted, "a signal came")),
-            2 => Err(io::Error::new(io::ErrorKind::Other, "it broke")),
-            _ => Ok(room.min(1)),
-        }
-    }
-}
-
-impl io::Read for Shaky {
-    fn read(&mut self, buf: &mut [u8]) -> io::Result<usize> {
-        self.answer(buf.len())
-    }
-}
-
-impl io::Write for Shaky {
-    fn write(&mut self, buf: &[u8]) -> io::Result<usize> {
-        self.answer(buf.len())
-    }
-
-    fn flush(&mut self) -> io::Result<()> {
-        self.answer(0)?;
-        Ok(())
-    }
+fn pass<G: Gate>(gate: &G, trustee: u32, number: u64) {
+    gate.at(trustee, number)
 }
 
 #[test]
-fn an_interrupted_call_is_no_fault_and_a_broken_one_is(rt: HostRuntime) {
-    let mut source = StdSource::new(Shaky { calls: 0 });
-    let mut buffer = [0; 3];
-    for want in [Ok(1), Err(Failed), Ok(1), Ok(1)] {
-        assert_eq!(rt; source.read(&mut buffer), want);
-    }
-    assert_eq!(rt; source.faults(), 1);
-
-    let mut sink = StdSink::new(Shaky { calls: 0 });
-    for want in [Ok(1), Err(Failed), Ok(1)] {
-        assert_eq!(rt; sink.write(b"abc"), want);
-    }
-    assert_eq!(rt; sink.flush(), Err(Failed));
-    assert_eq!(rt; sink.flush(), Ok(()));
-    assert_eq!(rt; sink.faults(), 2);
-}
-
-#[test]
-fn a_flush_empties_the_buffer(rt: HostRuntime) -> Result<(), Fail> {
-    let alloc = rt.alloc();
-    let mut sink = StdSink::new(io::BufWriter::new(alloc, Vec::new(alloc))?);
-    assert_eq!(rt; write_all(&mut sink, b"hello"), Ok(()));
-    assert_eq!(rt; sink.flush(), Ok(()));
-    assert_eq!(rt; sink.into_inner().get_ref().as_slice(), b"hello".as_slice());
-    Ok(())
+fn gates_are_passed(rt: HostRuntime) {
+    pass(&FreeGate, 3, 7);
+    let gate = CountingGate::new(3);
+    assert!(rt; gate.passed() == 0 && gate.is_in_order());
+    pass(&gate, 3, 0);
+    pass(&gate, 3, 1);
+    assert!(rt; gate.passed() == 2 && gate.is_in_order());
+    pass(&gate, 3, 1);
+    pass(&gate, 3, 3);
+    assert!(rt; gate.passed() == 4 && !gate.is_in_order());
+    let other = CountingGate::new(3);
+    pass(&other, 2, 0);
+    assert!(rt; other.passed() == 1 && !other.is_in_order());
 }
 
 fn moves<T: Send>(value: T) -> T {

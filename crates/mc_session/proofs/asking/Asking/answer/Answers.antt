@@ -13,13 +13,13 @@ returns-in-Store g c =
     subst (λ (z : ℤ). IsClassPart c.args.self.now (c.in-Store.key, Store c.in-Store.how c.in-Store.flags z c.in-Store.value) c.args.moment c.store-reply.new.self c.store-reply.result)
     (to_z-of_z w64 c.in-Store.exptime fits) c.store-reply.ensures
     in
-    rw c.in-Store.is (store_answer _ _ _ _ _ _ _ _ _ c.store-reply.result _ here c.store_shown.ensures)
+    rw c.in-Store.is (record { ok = store_answer _ _ _ _ _ _ _ _ _ c.store-reply.result _ here c.store_shown.ensures; err = tt })
 
 pub returns-in-Delete : goal.returns-in-Delete
-returns-in-Delete g c = rw c.in-Delete.is (delete_answer _ _ _ _ _ c.delete.result _ c.delete.ensures c.delete_shown.ensures)
+returns-in-Delete g c = rw c.in-Delete.is (record { ok = delete_answer _ _ _ _ _ c.delete.result _ c.delete.ensures c.delete_shown.ensures; err = tt })
 
 pub returns-in-Change : goal.returns-in-Change
-returns-in-Change g c = rw c.in-Change.is (change_answer _ _ _ _ _ _ _ c.change.result _ c.change.ensures c.change_shown.ensures)
+returns-in-Change g c = rw c.in-Change.is (record { ok = change_answer _ _ _ _ _ _ _ c.change.result _ c.change.ensures c.change_shown.ensures; err = tt })
 
 pub returns-in-Touch : goal.returns-in-Touch
 returns-in-Touch g c =
@@ -28,10 +28,10 @@ returns-in-Touch g c =
     subst (λ (z : ℤ). IsClassPart c.args.self.now (c.in-Touch.key, Touch z) c.args.moment c.touch.new.self c.touch.result)
     (to_z-of_z w64 c.in-Touch.exptime fits) c.touch.ensures
     in
-    rw c.in-Touch.is (touch_answer _ _ _ _ _ _ c.touch.result _ here c.touch_shown.ensures)
+    rw c.in-Touch.is (record { ok = touch_answer _ _ _ _ _ _ c.touch.result _ here c.touch_shown.ensures; err = tt })
 
 pub returns-in-FlushAll : goal.returns-in-FlushAll
-returns-in-FlushAll g c = rw c.in-FlushAll.is (flush_answer _ _ _ _ _ c.flush_all.result _ c.flush_all.ensures c.flush_shown.ensures)
+returns-in-FlushAll g c = rw c.in-FlushAll.is (record { ok = flush_answer _ _ _ _ _ c.flush_all.result _ c.flush_all.ensures c.flush_shown.ensures; err = tt })
 
 pub returns-in-Stats : goal.returns-in-Stats
-returns-in-Stats g c = rw c.in-Stats.is (stats_answer _ _ _ c.count_all.result _ c.count_all.ensures c.stats_shown.ensures)
+returns-in-Stats g c = rw c.in-Stats.is (record { ok = stats_answer _ _ _ c.count_all.result _ c.count_all.ensures c.stats_shown.ensures; err = tt })
