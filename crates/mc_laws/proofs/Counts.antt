@@ -25,8 +25,9 @@ settle_change p classes moment h class inside =
     record {
       inside = inside;
       not_later = h.not_later;
+      bound = h.bound;
       here = part_from p class (settled s moment) moment (latest-le s.moment moment part.not_later)
-          (record { number = part.number; changes = part.changes; most = part.most; few = omega (arith, count-settled-le s moment, part.few) })
+          (record { number = part.number; changes = part.changes; bound = part.bound; few = omega (arith, count-settled-le s moment, part.few) })
           (agree_class_settled class s p moment (agree_of p class s moment part));
       elsewhere = λ other n same. same;
       stored = stored-with_class classes class (settled s moment) false (omega (arith, h.count)) refl ∙ h.stored;
@@ -38,10 +39,11 @@ stand_classes_settled p classes moment = stand_round (λ s. settled s moment) (�
 stand_store_settled : (p : Plain) (classes : List Class) (moment : ℕ) → StandFor p classes moment → StandFor (plain_settled p moment) classes moment
 stand_store_settled p classes moment h = record {
   count = h.count;
+  bound = h.bound;
   not_later = latest-le p.moment moment h.not_later;
   parts = λ class lt. let part = h.parts class lt in
       part_from (plain_settled p moment) class (class_at classes class) moment part.not_later
-      (record { number = part.number; changes = part.changes; most = part.most; few = part.few })
+      (record { number = part.number; changes = part.changes; bound = part.bound; few = part.few })
       (agree_store_settled class (class_at classes class) p moment (agree_of p class (class_at classes class) moment part));
   stored = h.stored;
 }
@@ -60,7 +62,7 @@ held_by-settled p classes moment h =
     let stand = stand_classes_settled p classes moment h 64 (omega arith) in
     held_by-items (plain_settled p moment).items new stand.count
     (λ class lt. ap (λ s. s.items) (settled_at classes moment class h.count lt) ∙ (h.parts class lt).items)
-    (λ class lt. let part = stand.parts class lt in omega (arith, part.few, part.most))
+    (λ class lt. let part = stand.parts class lt in omega (arith, part.few, part.bound, stand.bound))
 
 pub count_as_one :
     (p : Plain) (classes : List Class) (moment : ℕ) (new : List Class) (replies : List ShardReply)

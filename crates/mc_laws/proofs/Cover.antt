@@ -2,17 +2,15 @@
 use Rattle.std.proofs.Common.{◌≡◌, ℕ, zero, suc, ◌+◌, ◌*◌, ◌-◌, ◌<◌, ◌≤◌, ◌^◌, min, cond, eqb, ltb, List, [], ◌∷◌, length, take, None, All, add-one, refl, sym, ap, ap₂, subst, ◌∙◌, inl, inr, arith, lt-ltb, le-ltb}
 use Rattle.std.proofs.lemmas.Bool.{cases_order, eq-eqb, ne_eqb}
 use Rattle.std.proofs.lemmas.List.{get_or_default, take_all}
-use Rattle.std.proofs.lemmas.List.Sums.{sum_by-cons, sum_by_more, sum_by-le, sum-map}
+use Rattle.std.proofs.lemmas.List.Sums.{sum_by-cons, sum_by_more, sum_by-le, sum-map, length-filter}
 use Rattle.std.specs.List.{sum_by, count_by}
-use Rattle.std.specs.FinMap.{entries}
+use Rattle.mc_item.specs.declared.limits.TheConstants.{MOST_ITEMS}
 use Rattle.mc_item.specs.Classes.{class_of}
 use Rattle.mc_model.specs.declared.item.Item.{Item}
 use Rattle.mc_model.specs.Items.{Items, item_at, count_of, of_classes}
-use Rattle.mc_model.specs.Rows.{most_changes}
 use Rattle.mc_model.specs.Class.{Class, new_class}
-use Rattle.mc_model.proofs.ItemFacts.{same_items, item_at-of_classes}
+use Rattle.mc_model.proofs.ItemFacts.{filter_all}
 use Rattle.mc_laws.specs.Classes.{class_at, held_by}
-use Rattle.mc_laws.proofs.Lengths.{count-retain_keys}
 use Rattle.mc_laws.proofs.Stores.{class_below}
 
 one_each : (class n : ℕ) → cond (ltb class (suc n)) 1 0 ≡ cond (ltb class n) 1 0 + cond (eqb class n) 1 0
@@ -37,8 +35,8 @@ below n items = of_classes (λ k. ltb k n) items
 below_more : (n : ℕ) (items : Items) → count_of (below (suc n) items) ≡ count_of (below n items) + count_of (of_classes (λ k. eqb k n) items)
 unfolding below of_classes
 below_more n items =
-    rw (count-retain_keys items (λ key. ltb (class_of key) (suc n)), count-retain_keys items (λ key. ltb (class_of key) n), count-retain_keys items (λ key. eqb (class_of key) n))
-    (entries_each n (entries items))
+    rw (length-filter (λ (e : List ℕ × Item). ltb (class_of e.0) (suc n)) items, length-filter (λ (e : List ℕ × Item). ltb (class_of e.0) n) items, length-filter (λ (e : List ℕ × Item). eqb (class_of e.0) n) items)
+    (entries_each n items)
 
 none_passes : (es : List (List ℕ × Item)) → count_by (λ e. ltb (class_of e.0) 0) es ≡ 0
 none_passes [] = refl
@@ -49,12 +47,11 @@ none_passes (e ∷ es) =
 
 below_none : (items : Items) → count_of (below 0 items) ≡ 0
 unfolding below of_classes
-below_none items = count-retain_keys items (λ key. ltb (class_of key) 0) ∙ none_passes (entries items)
+below_none items = length-filter (λ (e : List ℕ × Item). ltb (class_of e.0) 0) items ∙ none_passes items
 
 below_all : (items : Items) → below 64 items ≡ items
-unfolding below
-below_all items = same_items (of_classes (λ k. ltb k 64) items) items (λ q.
-    item_at-of_classes (λ k. ltb k 64) items q ∙ ap (λ b. cond b (item_at items q) None) (lt-ltb (class_of q) 64 (class_below q)))
+unfolding below of_classes
+below_all items = filter_all _ items (λ e. lt-ltb (class_of e.0) 64 (class_below e.0))
 
 -- how many items a class has
 count_class : Class → ℕ
@@ -72,7 +69,7 @@ first_counts :
     → sum_by count_class (take n classes) ≡ count_of (below n items)
 first_counts items classes count parts zero le = sym (below_none items)
 first_counts items classes count parts (suc n) le =
-    rw (← add-one) (sum_by_more count_class classes n (new_class n 0) (omega (arith, count)))
+    rw (← add-one) (sum_by_more count_class classes n (new_class n 0 0) (omega (arith, count)))
     ∙ ap₂ ◌+◌ (first_counts items classes count parts n (omega arith)) (count_part items classes parts n le)
     ∙ sym (below_more n items)
 
@@ -83,23 +80,23 @@ all_counts items classes count parts =
     ap (sum_by count_class) (sym (take_all 64 classes (omega (arith, count)))) ∙ first_counts items classes count parts 64 (omega arith) ∙ ap count_of (below_all items)
 
 -- no class has as many items that the sum would be cut
-few_counts : (classes : List Class) → length classes ≡ 64 → ((class : ℕ) → class < 64 → count_of (class_at classes class).items ≤ most_changes) → sum_by count_class classes ≤ 64 * most_changes
+few_counts : (classes : List Class) → length classes ≡ 64 → ((class : ℕ) → class < 64 → count_of (class_at classes class).items ≤ MOST_ITEMS) → sum_by count_class classes ≤ 64 * MOST_ITEMS
 unfolding count_class
 few_counts classes count few =
-    let each : All (λ s. count_class s ≤ most_changes) classes = λ k d lt.
-    subst (λ s. count_of s.items ≤ most_changes) (get_or_default classes k (new_class k 0) d lt) (few k (omega (arith, count))) in
-    subst (λ n. sum_by count_class classes ≤ n * most_changes) count (sum_by-le count_class most_changes classes each)
+    let each : All (λ s. count_class s ≤ MOST_ITEMS) classes = λ k d lt.
+    subst (λ s. count_of s.items ≤ MOST_ITEMS) (get_or_default classes k (new_class k 0 0) d lt) (few k (omega (arith, count))) in
+    subst (λ n. sum_by count_class classes ≤ n * MOST_ITEMS) count (sum_by-le count_class MOST_ITEMS classes each)
 
 held_by-sum : (classes : List Class) → held_by classes ≡ min (sum_by count_class classes) (2 ^ 64 - 1)
 unfolding count_class
 held_by-sum classes = ap (λ n. min n (2 ^ 64 - 1)) (sum-map (λ s. count_of s.items) classes)
 
-not_cut : (n : ℕ) → n ≤ 64 * most_changes → min n (2 ^ 64 - 1) ≡ n
+not_cut : (n : ℕ) → n ≤ 64 * MOST_ITEMS → min n (2 ^ 64 - 1) ≡ n
 not_cut n le = omega arith
 
 -- where each class has its part of a map, and no class too many items, they hold as many as the map has
 pub held_by-items :
     (items : Items) (classes : List Class) → length classes ≡ 64 → ((class : ℕ) → class < 64 → (class_at classes class).items ≡ of_classes (λ k. eqb k class) items)
-    → ((class : ℕ) → class < 64 → count_of (class_at classes class).items ≤ most_changes) → held_by classes ≡ count_of items
+    → ((class : ℕ) → class < 64 → count_of (class_at classes class).items ≤ MOST_ITEMS) → held_by classes ≡ count_of items
 held_by-items items classes count parts few =
     held_by-sum classes ∙ not_cut (sum_by count_class classes) (few_counts classes count few) ∙ all_counts items classes count parts

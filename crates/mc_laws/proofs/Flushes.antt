@@ -1,21 +1,18 @@
 -- A flush of all classes, one after another.
-use Rattle.std.proofs.Common.{◌≡◌, ℕ, ◌<◌, ◌≤◌, ◌^◌, Bool, true, false, cond, not, eqb, ◌==◌, leb, List, Option, Some, None, refl, sym, ap, subst, ◌∙◌, inl, inr, arith}
+use Rattle.std.proofs.Common.{◌≡◌, ℕ, ◌<◌, ◌≤◌, ◌^◌, Bool, true, false, cond, not, eqb, ◌==◌, leb, List, [], Option, Some, None, refl, sym, ap, subst, ◌∙◌, inl, inr, arith}
 use Rattle.std.proofs.lemmas.Bool.{ne_eqb, eqb-true}
-use Rattle.std.specs.Ordering.{nat_cmp}
-use Rattle.std.specs.Cmp.Lexicographic.{slice_cmp}
-use Rattle.std.specs.FinMap.{get-empty}
 use Rattle.mc_item.specs.Classes.{class_of}
 use Rattle.mc_model.specs.declared.item.Item.{Item}
 use Rattle.mc_model.specs.declared.reply.ShardReply.{ShardReply}
-use Rattle.mc_model.specs.Items.{no_items, item_at, of_classes}
+use Rattle.mc_model.specs.Items.{Items, of_classes}
 use Rattle.mc_model.specs.Class.{Class, settled, flush_moment, flush_step}
 use Rattle.mc_model.specs.Plain.{Plain, plain_settled, plain_flushed, plain_flushed_below, update, IsFlush}
-use Rattle.mc_model.proofs.ItemFacts.{item_at-of_classes}
+use Rattle.mc_model.proofs.ItemFacts.{filter_stricter, filter_apart}
 use Rattle.mc_laws.specs.Classes.{class_at, first_changed}
 use Rattle.mc_laws.specs.Replies.{AreFlushed}
 use Rattle.mc_laws.specs.Standing.{IsPartOf, StandFor}
-use Rattle.mc_laws.proofs.Settling.{latest-le, latest_is}
-use Rattle.mc_laws.proofs.Agreement.{own, Agree, agree_at, agree_from, agree_settled, agree_elsewhere}
+use Rattle.mc_laws.proofs.Settling.{own, latest-le, latest_is}
+use Rattle.mc_laws.proofs.Agreement.{Agree, agree_settled, agree_elsewhere}
 use Rattle.mc_laws.proofs.Parts.{agree_of, part_from, at_class, at_other, same_moment, IsChange}
 use Rattle.mc_laws.proofs.Lengths.{count-settled-le, count_unless}
 use Rattle.mc_laws.proofs.Sums.{stored-with_class}
@@ -25,7 +22,8 @@ use Rattle.mc_laws.proofs.Rounds.{stand_round}
 abbrev emptied_class : Class → Bool → ℕ → Class
 emptied_class t now flush_at = record {
   class = t.class;
-  items = cond now no_items t.items;
+  bound = t.bound;
+  items = cond now [] t.items;
   moment = t.moment;
   changes = t.changes;
   stored = t.stored;
@@ -34,6 +32,7 @@ emptied_class t now flush_at = record {
 
 abbrev emptied_part : ℕ → Plain → Bool → ℕ → Plain
 emptied_part class u now flush_at = record {
+  bound = u.bound;
   items = cond now (of_classes (λ k. not (k == class)) u.items) u.items;
   moment = u.moment;
   stored = u.stored;
@@ -41,30 +40,20 @@ emptied_part class u now flush_at = record {
   pending = update u.pending class (cond now None (Some flush_at));
 }
 
-without_own : (mine : Bool) (before : Option Item) → None ≡ cond mine (cond (not mine) before None) None
-without_own true before = refl
-without_own false before = refl
+own_gone : (class : ℕ) (items : Items) → [] ≡ own class (of_classes (λ k. not (k == class)) items)
+unfolding of_classes
+own_gone class items = sym (filter_apart _ _ items (λ e mine. ap not mine))
 
-own_kept : (mine gone : Bool) (before : Option Item) → (mine ≡ true → gone ≡ false) → cond mine before None ≡ cond mine (cond (not gone) before None) None
-own_kept true gone before h = rw (h refl) refl
-own_kept false gone before h = refl
+own_stays : (other class : ℕ) (items : Items) → (other ≡ class → ⊥) → own other items ≡ own other (of_classes (λ k. not (k == class)) items)
+unfolding of_classes
+own_stays other class items n = sym (filter_stricter _ _ items (λ e its. ap not (ne_eqb (class_of e.0) class (λ same. n (sym (eqb-true (class_of e.0) other its) ∙ same)))))
 
 agree_emptied : (class : ℕ) (t : Class) (u : Plain) (now : Bool) (flush_at : ℕ) → Agree class t u → Agree class (emptied_class t now flush_at) (emptied_part class u now flush_at)
-agree_emptied class t u true flush_at h =
-    let others : ℕ → Bool = λ k. not (k == class) in
-    agree_from class (emptied_class t true flush_at) (emptied_part class u true flush_at)
-    (λ q. get-empty (slice_cmp nat_cmp) q ∙ without_own (eqb (class_of q) class) (item_at u.items q) ∙ ap (own class q) (sym (item_at-of_classes others u.items q)))
-    (at_class u.pending class None)
+agree_emptied class t u true flush_at h = record { items = own_gone class u.items; pending = at_class u.pending class None }
 agree_emptied class t u false flush_at h = record { items = h.items; pending = at_class u.pending class (Some flush_at) }
 
 agree_emptied_other : (other class : ℕ) (t : Class) (u : Plain) (now : Bool) (flush_at : ℕ) → (other ≡ class → ⊥) → Agree other t u → Agree other t (emptied_part class u now flush_at)
-agree_emptied_other other class t u true flush_at n h =
-    let others : ℕ → Bool = λ k. not (k == class) in
-    agree_from other t (emptied_part class u true flush_at)
-    (λ q. agree_at other t u h q
-    ∙ own_kept (eqb (class_of q) other) (eqb (class_of q) class) (item_at u.items q) (λ e. ne_eqb (class_of q) class (λ same. n (sym (eqb-true (class_of q) other e) ∙ same)))
-    ∙ ap (own other q) (sym (item_at-of_classes others u.items q)))
-    (h.pending ∙ at_other u.pending class other None n)
+agree_emptied_other other class t u true flush_at n h = record { items = h.items ∙ own_stays other class u.items n; pending = h.pending ∙ at_other u.pending class other None n }
 agree_emptied_other other class t u false flush_at n h = record { items = h.items; pending = h.pending ∙ at_other u.pending class other (Some flush_at) n }
 
 -- ---- the flush of one class
@@ -77,7 +66,7 @@ module _ (p : Plain) (classes : List Class) (moment : ℕ) (h : StandFor p class
       let u = plain_settled p moment in
       let part = h.parts class inside in
       part_from (emptied_part class u now flush_at) class (emptied_class t now flush_at) moment (latest-le s.moment moment part.not_later)
-      (record { number = part.number; changes = part.changes; most = part.most; few = omega (arith, count_unless now t.items, count-settled-le s moment, part.few) })
+      (record { number = part.number; changes = part.changes; bound = part.bound; few = omega (arith, count_unless now t.items, count-settled-le s moment, part.few) })
       (agree_settled class (emptied_class t now flush_at) (emptied_part class u now flush_at) moment (omega (arith, part.not_later, h.not_later))
       (agree_emptied class t u now flush_at (agree_of p class s moment part)))
 
@@ -88,7 +77,7 @@ module _ (p : Plain) (classes : List Class) (moment : ℕ) (h : StandFor p class
       let s = class_at classes other in
       let u = plain_settled p moment in
       part_from (emptied_part class u now flush_at) other s moment part.not_later
-      (record { number = part.number; changes = part.changes; most = part.most; few = part.few })
+      (record { number = part.number; changes = part.changes; bound = part.bound; few = part.few })
       (agree_elsewhere other s (emptied_part class u now flush_at) moment part.not_later most (latest_is p.moment moment h.not_later most)
       (agree_emptied_other other class (settled s moment) u now flush_at n (agree_of p other s moment part)))
 
@@ -96,6 +85,7 @@ module _ (p : Plain) (classes : List Class) (moment : ℕ) (h : StandFor p class
   emptied_change now flush_at = record {
     inside = inside;
     not_later = latest-le p.moment moment h.not_later;
+    bound = h.bound;
     here = emptied_here now flush_at;
     elsewhere = emptied_elsewhere now flush_at;
     stored = stored-with_class classes class (emptied_class (settled (class_at classes class) moment) now flush_at) false (omega (arith, h.count)) refl ∙ h.stored;

@@ -1,70 +1,90 @@
--- How many items pass a test.
-use Rattle.std.proofs.Common.{◌≡◌, ℕ, ◌+◌, ◌-◌, ◌≤◌, Bool, true, false, cond, List, length, Equal, Option, Some, None, is_some, refl, sym, ap, ◌∙◌, arith}
+-- How many items there are after settling, and after an operation on a key.
+use Rattle.std.proofs.Common.{◌≡◌, ℕ, suc, ◌+◌, ◌^◌, ◌≤◌, Bool, true, false, cond, eqb, ltb, not, List, [], ◌∷◌, length, take, Option, Some, None, IsSome, refl, sym, ap, arith}
 use Rattle.std.proofs.lemmas.List.Sums.{length-filter, count_by-le-length}
-use Rattle.std.specs.List.{count_by}
-use Rattle.std.specs.Ordering.{nat_cmp}
-use Rattle.std.specs.Cmp.Lexicographic.{slice_cmp}
-use Rattle.std.specs.FinMap.{entries, retain_keys, from_sorted, get-entries, len-entries, len-empty, len-insert, len-remove, get-retain_keys, get-from_sorted, entries-from_sorted, entries_sorted}
-use Rattle.std.specs.FinMap.Entries.{where_key, is_sorted-where_key, find-where_key}
+use Rattle.std.proofs.lemmas.List.{length-take}
+use Rattle.std.specs.List.{filter}
+use Rattle.std.specs.Fmt.{decimal}
+use Rattle.mc_item.specs.declared.limits.TheConstants.{LARGEST_VALUE, MOST_CHANGES}
+use Rattle.mc_item.specs.Expiry.{due_at}
+use Rattle.mc_item.specs.Numbers.{number_below}
 use Rattle.mc_model.specs.declared.item.Item.{Item}
+use Rattle.mc_model.specs.declared.reply.ShardReply.{ShardReply}
 use Rattle.mc_model.specs.Moments.{latest}
-use Rattle.mc_model.specs.Items.{Items, no_items, item_at, count_of, is_live, live, with_key}
-use Rattle.mc_model.specs.Class.{Class, settled, is_flush_due}
-use Rattle.mc_model.proofs.ItemFacts.{exact, total, same_items}
+use Rattle.mc_model.specs.Items.{Items, same_key, item_at, count_of, live, without, first}
+use Rattle.mc_model.specs.Rows.{KeyOp, Store, Get, GetTouch, Change, Touch, Delete, Effect, Keep, Use, Put, Remove, Outcome, outcome_of, store_unless, refusal_of, stored_item, change_number}
+use Rattle.mc_model.specs.Class.{Class, settled, is_flush_due, after_effect}
 
-entries-retain_keys : (m : Items) (p : List ℕ → Bool) → entries (retain_keys m p) ≡ where_key (slice_cmp nat_cmp) p (entries m)
-entries-retain_keys m p =
-    let R = slice_cmp nat_cmp in
-    let es = where_key R p (entries m) in
-    let sorted = is_sorted-where_key R p (entries m) (entries_sorted m) in
-    let alike : (q x : List ℕ) → R q x ≡ Equal → p x ≡ p q = λ q x e. ap p (sym (exact q x e)) in
-    ap entries (same_items (retain_keys m p) (from_sorted es) (λ q.
-    get-retain_keys m p q (alike q) ∙ ap (λ o. cond (p q) o None) (get-entries m q)
-    ∙ sym (get-from_sorted R es q sorted ∙ find-where_key R p q (alike q) (entries m))))
-    ∙ entries-from_sorted R es sorted
+length-filter-le : {X : Type 0} (p : X → Bool) (xs : List X) → length (filter p xs) ≤ length xs
+length-filter-le p xs = rw (length-filter p xs) (count_by-le-length p xs)
 
--- the number of items whose keys pass is that of the entries that do
-pub count-retain_keys : (m : Items) (p : List ℕ → Bool) → count_of (retain_keys m p) ≡ count_by (λ e. p e.0) (entries m)
-count-retain_keys m p = len-entries (retain_keys m p) ∙ ap length (entries-retain_keys m p) ∙ length-filter (λ e. p e.0) (entries m)
-
-count-retain_keys-le : (m : Items) (p : List ℕ → Bool) → count_of (retain_keys m p) ≤ count_of m
-count-retain_keys-le m p = rw (count-retain_keys m p, len-entries m) (count_by-le-length (λ e. p e.0) (entries m))
-
--- ---- settling, and an operation on a key
+-- ---- settling
 
 count-live-le : (moment : ℕ) (items : Items) → count_of (live moment items) ≤ count_of items
 unfolding live
-count-live-le moment items = count-retain_keys-le items (λ key. is_live moment (item_at items key))
+count-live-le moment items = length-filter-le _ items
 
-pub count-none : count_of no_items ≡ 0
-count-none = len-empty (slice_cmp nat_cmp) Item
-
-pub count_unless : (due : Bool) (items : Items) → count_of (cond due no_items items) ≤ count_of items
-count_unless true items = omega (arith, count-none)
+pub count_unless : (due : Bool) (items : Items) → count_of (cond due [] items) ≤ count_of items
+count_unless true items = omega arith
 count_unless false items = omega arith
 
 pub count-settled-le : (s : Class) (moment : ℕ) → count_of (settled s moment).items ≤ count_of s.items
 count-settled-le s moment =
     let now = latest s.moment moment in
-    let kept = count-live-le now (cond (is_flush_due s.pending now) no_items s.items) in
+    let kept = count-live-le now (cond (is_flush_due s.pending now) [] s.items) in
     let unless = count_unless (is_flush_due s.pending now) s.items in
     omega (arith, kept, unless)
 
--- a key has one item more at most, and only where it had none
-pub record IsGrowth (before after : Option Item) (changes more : ℕ) : Type 0 where
-  pub no_fewer : changes ≤ more
-  pub new : is_some before ≡ false → is_some after ≡ true → changes + 1 ≤ more
+-- ---- an effect
 
-less_by : (b : Bool) (n changes more : ℕ) → n ≤ changes → changes ≤ more → cond b (n - 1) n ≤ more
-less_by true n changes more few le = omega arith
-less_by false n changes more few le = omega arith
+-- only an item that is there is used
+abbrev pub IsFitting : Option Item → Effect → Type 0
+IsFitting before Keep = Unit {0}
+IsFitting before (Use item) = IsSome before
+IsFitting before (Put item) = Unit {0}
+IsFitting before Remove = Unit {0}
 
-more_by : (b : Bool) (n changes more : ℕ) → n ≤ changes → changes ≤ more → (b ≡ false → changes + 1 ≤ more) → cond b n (n + 1) ≤ more
-more_by true n changes more few le new = omega arith
-more_by false n changes more few le new = omega (arith, new refl)
+count-without-less : (items : Items) (key : List ℕ) → IsSome (item_at items key) → suc (count_of (without items key)) ≤ count_of items
+unfolding without
+count-without-less [] key there = absurd cc
+count-without-less (e ∷ items) key there = (elim (same_key key e.0) as (λ b. IsSome (cond b (Some e.1) (item_at items key)) → suc (count_of (cond (not b) (e ∷ without items key) (without items key))) ≤ suc (count_of items)) [
+  | true ↦ λ h. let le = length-filter-le (λ (x : List ℕ × Item). not (same_key key x.0)) items in omega (arith, le)
+  | false ↦ λ h. let less = count-without-less items key h in omega (arith, less)
+]) there
 
-pub count-with_key-le : (items : Items) (key : List ℕ) (after : Option Item) (changes more : ℕ) → count_of items ≤ changes → IsGrowth (item_at items key) after changes more → count_of (with_key items key after) ≤ more
-unfolding with_key
-count-with_key-le items key None changes more few h = rw (len-remove total items key) (less_by (is_some (item_at items key)) (count_of items) changes more few h.no_fewer)
-count-with_key-le items key (Some item) changes more few h =
-    rw (len-insert total items key item) (more_by (is_some (item_at items key)) (count_of items) changes more few h.no_fewer (λ e. h.new e refl))
+count-take-le : (bound : ℕ) (items : Items) → count_of (take bound items) ≤ bound
+count-take-le bound items = omega (arith, length-take bound items)
+
+pub count-after_effect-le : (bound : ℕ) (items : Items) (key : List ℕ) (effect : Effect) → count_of items ≤ bound → IsFitting (item_at items key) effect → count_of (after_effect (take bound) items key effect) ≤ bound
+unfolding first without
+count-after_effect-le bound items key Keep few fits = few
+count-after_effect-le bound items key (Use item) few fits = let less = count-without-less items key fits in omega (arith, less)
+count-after_effect-le bound items key (Put item) few fits = count-take-le bound (first items key item)
+count-after_effect-le bound items key Remove few fits = let le = length-filter-le (λ (x : List ℕ × Item). not (same_key key x.0)) items in omega (arith, le)
+
+-- ---- the rows
+
+either : (b : Bool) (before : Option Item) (x y : Outcome) → IsFitting before x.effect → IsFitting before y.effect → IsFitting before (cond b x y).effect
+either true before x y h g = h
+either false before x y h g = g
+
+unless_fits : (refusal : Option ShardReply) (changes : ℕ) (before : Option Item) (item : Item) → IsFitting before (store_unless refusal changes item).effect
+unless_fits (Some r) changes before item = tt
+unless_fits None changes before item = either (eqb changes MOST_CHANGES) before _ _ tt tt
+
+number_fits : (class changes : ℕ) (up : Bool) (by : ℕ) (item : Item) (before : Option Item) (number : Option ℕ) → IsFitting before (change_number class changes up by item number).effect
+number_fits class changes up by item before None = tt
+number_fits class changes up by item before (Some number) = either (eqb changes MOST_CHANGES) before _ _ tt tt
+
+pub outcome_fits : (class moment changes : ℕ) (op : KeyOp) (before : Option Item) → IsFitting before (outcome_of class moment changes op before).effect
+outcome_fits class moment changes (Store how flags exptime value) before =
+    either (ltb LARGEST_VALUE (length value)) before _ _ tt (unless_fits (refusal_of how (length value) before) changes before _)
+outcome_fits class moment changes Get None = tt
+outcome_fits class moment changes Get (Some item) = refl
+outcome_fits class moment changes (GetTouch exptime) None = tt
+outcome_fits class moment changes (GetTouch exptime) (Some item) = refl
+outcome_fits class moment changes (Change up by) None = tt
+outcome_fits class moment changes (Change up by) (Some item) = number_fits class changes up by item (Some item) (number_below (2 ^ 64) item.value)
+outcome_fits class moment changes (Touch exptime) None = tt
+outcome_fits class moment changes (Touch exptime) (Some item) = refl
+outcome_fits class moment changes Delete None = tt
+outcome_fits class moment changes Delete (Some item) = tt

@@ -3,7 +3,6 @@ pub mod Agreement
 pub mod Parts
 pub mod Lengths
 pub mod Sums
-pub mod Outcomes
 pub mod Stores
 pub mod Rounds
 pub mod Flushes

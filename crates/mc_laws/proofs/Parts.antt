@@ -2,9 +2,9 @@
 use Rattle.std.proofs.Common.{◌≡◌, ℕ, ◌<◌, ◌≤◌, ◌^◌, List, length, refl, sym, subst, ◌∙◌, inl, inr, arith, get_or-set_same, get_or-set_other}
 use Rattle.std.proofs.lemmas.Bool.{cases_eq, eq-eqb, ne_eqb}
 use Rattle.std.proofs.lemmas.List.{length-set}
+use Rattle.mc_item.specs.declared.limits.TheConstants.{MOST_ITEMS}
 use Rattle.mc_model.specs.Moments.{latest}
 use Rattle.mc_model.specs.Items.{count_of}
-use Rattle.mc_model.specs.Rows.{most_changes}
 use Rattle.mc_model.specs.Class.{Class, new_class, settled}
 use Rattle.mc_model.specs.Plain.{Plain, plain_settled, update}
 use Rattle.mc_laws.specs.Classes.{class_at, with_class, stored_by}
@@ -20,11 +20,11 @@ agree_of p class s moment h = record { items = h.items; pending = h.pending }
 pub record IsCounted (p : Plain) (class : ℕ) (s : Class) : Type 0 where
   pub number : s.class ≡ class
   pub changes : s.changes ≡ p.changes class
-  pub most : s.changes ≤ most_changes
-  pub few : count_of s.items ≤ s.changes
+  pub bound : s.bound ≡ p.bound
+  pub few : count_of s.items ≤ s.bound
 
 pub counted_of : (p : Plain) (class : ℕ) (s : Class) (moment : ℕ) → IsPartOf p class s moment → IsCounted p class s
-counted_of p class s moment h = record { number = h.number; changes = h.changes; most = h.most; few = h.few }
+counted_of p class s moment h = record { number = h.number; changes = h.changes; bound = h.bound; few = h.few }
 
 pub part_from : (p : Plain) (class : ℕ) (s : Class) (moment : ℕ) → s.moment ≤ moment → IsCounted p class s → Agree class (settled s moment) (plain_settled p moment) → IsPartOf p class s moment
 part_from p class s moment past counted agree = record {
@@ -33,7 +33,7 @@ part_from p class s moment past counted agree = record {
   items = agree.items;
   pending = agree.pending;
   changes = counted.changes;
-  most = counted.most;
+  bound = counted.bound;
   few = counted.few;
 }
 
@@ -46,16 +46,17 @@ part_later p class s moment later past le h =
 pub stand_later : (p : Plain) (classes : List Class) (moment later : ℕ) → StandFor p classes moment → moment ≤ later → StandFor p classes later
 stand_later p classes moment later h le = record {
   count = h.count;
+  bound = h.bound;
   not_later = omega (arith, h.not_later);
   parts = λ class lt. part_later p class (class_at classes class) moment later h.not_later le (h.parts class lt);
   stored = h.stored;
 }
 
 pub class_at-same : (classes : List Class) (class : ℕ) (s : Class) → length classes ≡ 64 → class < 64 → class_at (with_class classes class s) class ≡ s
-class_at-same classes class s count lt = get_or-set_same classes class s (new_class class 0) (omega arith)
+class_at-same classes class s count lt = get_or-set_same classes class s (new_class class 0 0) (omega arith)
 
 pub class_at-other : (classes : List Class) (class other : ℕ) (s : Class) → (other ≡ class → ⊥) → class_at (with_class classes class s) other ≡ class_at classes other
-class_at-other classes class other s n = get_or-set_other classes class other s (new_class other 0) n
+class_at-other classes class other s n = get_or-set_other classes class other s (new_class other 0 0) n
 
 -- ---- what a change leaves
 
@@ -73,6 +74,7 @@ same_moment p classes moment h most class lt = let past = (h.parts class lt).not
 pub record IsChange (p : Plain) (classes : List Class) (class : ℕ) (s : Class) (q : Plain) (moment : ℕ) : Type 0 where
   pub inside : class < 64
   pub not_later : q.moment ≤ moment
+  pub bound : q.bound ≤ MOST_ITEMS
   pub here : IsPartOf q class s moment
   pub elsewhere : (other : ℕ) → (other ≡ class → ⊥) → IsPartOf p other (class_at classes other) moment → IsPartOf q other (class_at classes other) moment
   pub stored : stored_by (with_class classes class s) ≡ q.stored
@@ -80,6 +82,7 @@ pub record IsChange (p : Plain) (classes : List Class) (class : ℕ) (s : Class)
 pub stand_changed : (p : Plain) (classes : List Class) (class : ℕ) (s : Class) (q : Plain) (moment : ℕ) → StandFor p classes moment → IsChange p classes class s q moment → StandFor q (with_class classes class s) moment
 stand_changed p classes class s q moment h change = record {
   count = length-set classes class s ∙ h.count;
+  bound = change.bound;
   not_later = change.not_later;
   parts = λ other lt. elim (cases_eq other class) [
     | inl e ↦ subst (λ k. IsPartOf q k (class_at (with_class classes class s) k) moment) (sym e)

@@ -23,7 +23,7 @@ stand_round change after classes moment each h zero le = h
 stand_round change after classes moment each h (suc n) le =
     let before = stand_round change after classes moment each h n (omega arith) in
     let l = first_changed n change classes in
-    subst (λ new. StandFor (after (suc n)) new moment) (sym (one_more change n classes (new_class n 0) (omega (arith, h.count))))
+    subst (λ new. StandFor (after (suc n)) new moment) (sym (one_more change n classes (new_class n 0 0) (omega (arith, h.count))))
     (stand_changed (after n) l n (change (class_at l n)) (after (suc n)) moment before (each n l le before))
 
 -- after a whole round each class is changed
@@ -31,4 +31,4 @@ pub whole_round : (change : Class → Class) (classes : List Class) (n : ℕ) �
 whole_round change classes n le = rw (take_all n classes le, drop_all n classes le) (append-nil (map change classes))
 
 pub class_at-map : (change : Class → Class) (classes : List Class) (class : ℕ) → class < length classes → class_at (map change classes) class ≡ change (class_at classes class)
-class_at-map change classes class lt = get_or-map change classes class (new_class class 0) (new_class class 0) lt
+class_at-map change classes class lt = get_or-map change classes class (new_class class 0 0) (new_class class 0 0) lt

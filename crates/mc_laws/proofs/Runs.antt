@@ -1,13 +1,9 @@
 -- Commands one after another, from nothing stored.
 use Rattle.std.proofs.Common.{◌≡◌, ℕ, ◌<◌, ◌≤◌, ◌^◌, Bool, true, false, cond, eqb, List, [], ◌∷◌, Option, None, refl, sym, ap, subst, ◌∙◌, arith}
 use Rattle.std.proofs.lemmas.List.FromFn.{get_or-map-range_with_len}
-use Rattle.std.specs.Ordering.{nat_cmp}
-use Rattle.std.specs.Cmp.Lexicographic.{slice_cmp}
-use Rattle.std.specs.FinMap.{get-empty}
-use Rattle.mc_item.specs.Classes.{class_of}
-use Rattle.mc_model.specs.declared.item.Item.{Item}
 use Rattle.mc_model.specs.declared.message.Command.{Command}
 use Rattle.mc_model.specs.declared.reply.ShardReply.{ShardReply}
+use Rattle.mc_model.specs.Items.{Items, of_classes}
 use Rattle.mc_model.specs.Moments.{latest, moments_from}
 use Rattle.mc_model.specs.Class.{Class, new_class}
 use Rattle.mc_model.specs.Plain.{Plain, new_store, Runs}
@@ -15,37 +11,35 @@ use Rattle.mc_laws.specs.Classes.{new_classes, class_at}
 use Rattle.mc_laws.specs.Replies.{ClassesReply, ClassesRun}
 use Rattle.mc_laws.specs.Standing.{IsPartOf, StandFor}
 use Rattle.mc_laws.specs.Laws.{FirstClassesStand, ClassesRunAsOne}
-use Rattle.mc_laws.proofs.Agreement.{own, Agree, agree_from, agree_settled}
+use Rattle.mc_laws.proofs.Settling.{own}
+use Rattle.mc_laws.proofs.Agreement.{Agree, agree_settled}
 use Rattle.mc_laws.proofs.Parts.{part_from, stand_later}
-use Rattle.mc_laws.proofs.Lengths.{count-none}
 use Rattle.mc_laws.proofs.Commands.{reply_as_one}
 
 -- ---- nothing stored
 
-none_own : (mine : Bool) → ◌≡◌ {A = Option Item} None (cond mine None None)
-none_own true = refl
-none_own false = refl
+none_own : (class : ℕ) → ◌≡◌ {A = Items} [] (own class [])
+unfolding of_classes
+none_own class = refl
 
-first_agrees : (class : ℕ) → Agree class (new_class class 0) new_store
-first_agrees class =
-    agree_from class (new_class class 0) new_store
-    (λ q. get-empty (slice_cmp nat_cmp) q ∙ none_own (eqb (class_of q) class) ∙ ap (own class q) (sym (get-empty (slice_cmp nat_cmp) q)))
-    refl
+first_agrees : (class bound : ℕ) → Agree class (new_class class 0 bound) (new_store bound)
+first_agrees class bound = record { items = none_own class; pending = refl }
 
-first_part : (class : ℕ) → IsPartOf new_store class (new_class class 0) 0
-first_part class =
-    part_from new_store class (new_class class 0) 0 (omega arith)
-    (record { number = refl; changes = refl; most = omega arith; few = omega (arith, count-none) })
-    (agree_settled class (new_class class 0) new_store 0 refl (first_agrees class))
+first_part : (class bound : ℕ) → IsPartOf (new_store bound) class (new_class class 0 bound) 0
+first_part class bound =
+    part_from (new_store bound) class (new_class class 0 bound) 0 (omega arith)
+    (record { number = refl; changes = refl; bound = refl; few = omega arith })
+    (agree_settled class (new_class class 0 bound) (new_store bound) 0 refl (first_agrees class bound))
 
-first_class : (class : ℕ) → class < 64 → class_at new_classes class ≡ new_class class 0
-first_class class lt = get_or-map-range_with_len (λ k. new_class k 0) 0 64 class class (new_class class 0) lt (omega arith)
+first_class : (bound class : ℕ) → class < 64 → class_at (new_classes bound) class ≡ new_class class 0 bound
+first_class bound class lt = get_or-map-range_with_len (λ k. new_class k 0 bound) 0 64 class class (new_class class 0 0) lt (omega arith)
 
 pub first_stand : FirstClassesStand
-first_stand = record {
+first_stand bound most = record {
   count = refl;
+  bound = most;
   not_later = omega arith;
-  parts = λ class lt. subst (λ s. IsPartOf new_store class s 0) (sym (first_class class lt)) (first_part class);
+  parts = λ class lt. subst (λ s. IsPartOf (new_store bound) class s 0) (sym (first_class bound class lt)) (first_part class bound);
   stored = refl;
 }
 
@@ -68,4 +62,4 @@ run_from (command ∷ commands) (reading ∷ readings) p classes moment replies 
     (rest.0, (one.0, now, moments_from now readings, run.3, run.4, refl, run.6, one.1, rest.1))
 
 pub run_as_one : ClassesRunAsOne
-run_as_one commands readings replies new run = run_from commands readings new_store new_classes 0 replies new first_stand (omega arith) run
+run_as_one bound commands readings replies new most run = run_from commands readings (new_store bound) (new_classes bound) 0 replies new (first_stand bound most) (omega arith) run

@@ -1,75 +1,73 @@
 -- An operation on a key: its class and the store do the same, and every other class stays its part.
-use Rattle.std.proofs.Common.{◌≡◌, ℕ, ◌<◌, ◌≤◌, ◌^◌, Bool, true, false, cond, eqb, List, [], ◌∷◌, Less, Equal, Greater, Ordering, Option, None, refl, sym, ap, subst, ◌∙◌, inl, inr, arith}
-use Rattle.std.proofs.lemmas.Bool.{eq-eqb, ne_eqb}
-use Rattle.std.specs.Ordering.{nat_cmp, eq_by_cmp, is_eq}
-use Rattle.std.specs.Cmp.Lexicographic.{slice_cmp}
+use Rattle.std.proofs.Common.{◌≡◌, ℕ, ◌<◌, ◌≤◌, ◌^◌, ◌==◌, true, false, List, [], ◌∷◌, take, refl, sym, ap, subst, ◌∙◌, inl, inr, arith}
+use Rattle.std.proofs.lemmas.Bool.{eq-eqb, eqb-true, ne_eqb}
 use Rattle.mc_item.specs.Classes.{class_of}
-use Rattle.mc_model.specs.declared.item.Item.{Item}
 use Rattle.mc_model.specs.declared.reply.ShardReply.{ShardReply}
-use Rattle.mc_model.specs.Items.{item_at}
-use Rattle.mc_model.specs.Rows.{KeyOp, Outcome, outcome_of}
-use Rattle.mc_model.specs.Class.{Class, settled, stored_after, after_key, outcome_at, key_step}
+use Rattle.mc_model.specs.Items.{Items, item_at, first, first_of}
+use Rattle.mc_model.specs.Rows.{KeyOp, Effect, Keep, Use, Put, Remove, Outcome, changes_after, outcome_of}
+use Rattle.mc_model.specs.Class.{Class, settled, stored_after, after_effect, after_key, outcome_at, key_step}
 use Rattle.mc_model.specs.Plain.{Plain, Part, plain_settled, plain_after_key, plain_outcome_at, plain_key_step, IsPart, AreParts}
-use Rattle.mc_model.proofs.ItemFacts.{exact, item_at-with_key}
+use Rattle.mc_model.proofs.ItemFacts.{item_at-of_classes, of_classes-first, of_classes-first_other, of_classes-first_of, of_classes-first_of_other, of_classes-without, of_classes-without_other}
 use Rattle.mc_laws.specs.Classes.{class_at}
 use Rattle.mc_laws.specs.Replies.{IsClassPart, AreClassParts}
 use Rattle.mc_laws.specs.Standing.{IsPartOf, StandFor}
-use Rattle.mc_laws.proofs.Settling.{latest-le, latest_is}
-use Rattle.mc_laws.proofs.Agreement.{own, Agree, agree_at, agree_from, agree_settled, agree_elsewhere}
+use Rattle.mc_laws.proofs.Settling.{own, latest-le, latest_is}
+use Rattle.mc_laws.proofs.Agreement.{Agree, agree_settled, agree_elsewhere}
 use Rattle.mc_laws.proofs.Parts.{agree_of, counted_of, part_from, same_moment, at_class, at_other, IsChange, stand_changed}
-use Rattle.mc_laws.proofs.Lengths.{count-settled-le, count-with_key-le}
+use Rattle.mc_laws.proofs.Lengths.{IsFitting, count-settled-le, count-after_effect-le, outcome_fits}
 use Rattle.mc_laws.proofs.Sums.{stored-with_class}
-use Rattle.mc_laws.proofs.Outcomes.{IsCounting, counts}
 
 pub class_below : (key : List ℕ) → class_of key < 64
 unfolding class_of
 class_below key = omega arith
 
--- ---- a key's new item, in its class and elsewhere
+-- ---- an effect on a key's item, in its class and elsewhere
 
-tied : (r : Ordering) → is_eq r ≡ true → r ≡ Equal
-tied Less e = absurd cc
-tied Equal e = refl
-tied Greater e = absurd cc
+own_effect : (class bound : ℕ) (items : Items) (key : List ℕ) (effect : Effect) → class ≡ class_of key
+    → after_effect (take bound) (own class items) key effect ≡ own class (after_effect (first_of (λ k. k == class_of key) bound) items key effect)
+own_effect class bound items key Keep same = refl
+own_effect class bound items key (Use item) same = sym (of_classes-first (λ k. k == class) items key item (eq-eqb (class_of key) class (sym same)))
+own_effect class bound items key (Put item) same =
+    ap (take bound) (sym (of_classes-first (λ k. k == class) items key item (eq-eqb (class_of key) class (sym same))))
+    ∙ sym (of_classes-first_of (λ k. k == class) bound (first items key item))
+    ∙ ap (λ c. own class (first_of (λ k. k == c) bound (first items key item))) same
+own_effect class bound items key Remove same = sym (of_classes-without (λ k. k == class) items key)
 
-same_class : (q key : List ℕ) → eq_by_cmp (slice_cmp nat_cmp) q key ≡ true → class_of q ≡ class_of key
-same_class q key e = ap class_of (exact q key (tied _ e))
+others_apart : (other class k : ℕ) → (other ≡ class → ⊥) → (k == other) ≡ true → (k == class) ≡ false
+others_apart other class k n e = ne_eqb k class (λ same. n (sym (eqb-true k other e) ∙ same))
 
-put_inside : (at_key mine : Bool) (after before : Option Item) → (at_key ≡ true → mine ≡ true) → cond at_key after (cond mine before None) ≡ cond mine (cond at_key after before) None
-put_inside true mine after before h = rw (h refl) refl
-put_inside false mine after before h = refl
+own_effect_other : (other bound : ℕ) (items : Items) (key : List ℕ) (effect : Effect) → (other ≡ class_of key → ⊥)
+    → own other items ≡ own other (after_effect (first_of (λ k. k == class_of key) bound) items key effect)
+own_effect_other other bound items key Keep n = refl
+own_effect_other other bound items key (Use item) n = sym (of_classes-first_other (λ k. k == other) items key item (ne_eqb (class_of key) other (λ e. n (sym e))))
+own_effect_other other bound items key (Put item) n =
+    sym (of_classes-first_of_other (λ k. k == class_of key) (λ k. k == other) bound (first items key item) (λ k e. others_apart other (class_of key) k n e)
+    ∙ of_classes-first_other (λ k. k == other) items key item (ne_eqb (class_of key) other (λ e. n (sym e))))
+own_effect_other other bound items key Remove n = sym (of_classes-without_other (λ k. k == other) items key (ne_eqb (class_of key) other (λ e. n (sym e))))
 
-put_outside : (at_key mine : Bool) (after before : Option Item) → (at_key ≡ true → mine ≡ false) → cond mine before None ≡ cond mine (cond at_key after before) None
-put_outside true mine after before h = rw (h refl) refl
-put_outside false mine after before h = refl
-
-agree_after : (t : Class) (u : Plain) (key : List ℕ) (o : Outcome) → Agree (class_of key) t u → Agree (class_of key) (after_key t key o) (plain_after_key u key o)
-agree_after t u key o h =
-    agree_from (class_of key) (after_key t key o) (plain_after_key u key o)
-    (λ q. let at_key = eq_by_cmp (slice_cmp nat_cmp) q key in
-    item_at-with_key t.items key o.item q
-    ∙ ap (cond at_key o.item) (agree_at (class_of key) t u h q)
-    ∙ put_inside at_key (eqb (class_of q) (class_of key)) o.item (item_at u.items q) (λ e. eq-eqb (class_of q) (class_of key) (same_class q key e))
-    ∙ ap (own (class_of key) q) (sym (item_at-with_key u.items key o.item q)))
-    h.pending
+agree_after : (t : Class) (u : Plain) (key : List ℕ) (o : Outcome) → t.bound ≡ u.bound → Agree (class_of key) t u → Agree (class_of key) (after_key t key o) (plain_after_key u key o)
+agree_after t u key o bound h = record {
+  items =
+      ap (λ items. after_effect (take t.bound) items key o.effect) h.items
+      ∙ ap (λ n. after_effect (take n) (own (class_of key) u.items) key o.effect) bound
+      ∙ own_effect (class_of key) u.bound u.items key o.effect refl;
+  pending = h.pending;
+}
 
 agree_after_other : (other : ℕ) (t : Class) (u : Plain) (key : List ℕ) (o : Outcome) → (other ≡ class_of key → ⊥) → Agree other t u → Agree other t (plain_after_key u key o)
-agree_after_other other t u key o n h =
-    agree_from other t (plain_after_key u key o)
-    (λ q. let at_key = eq_by_cmp (slice_cmp nat_cmp) q key in
-    agree_at other t u h q
-    ∙ put_outside at_key (eqb (class_of q) other) o.item (item_at u.items q) (λ e. ne_eqb (class_of q) other (λ same. n (sym same ∙ same_class q key e)))
-    ∙ ap (own other q) (sym (item_at-with_key u.items key o.item q)))
-    h.pending
+agree_after_other other t u key o n h = record {
+  items = h.items ∙ own_effect_other other u.bound u.items key o.effect n;
+  pending = h.pending;
+}
 
 -- ---- the change of one class
 
 module _ (p : Plain) (classes : List Class) (moment : ℕ) (h : StandFor p classes moment) (most : moment ≤ 2 ^ 62) where
   after_here :
       (key : List ℕ) (o : Outcome)
-      → IsCounting (settled (class_at classes (class_of key)) moment).changes (item_at (settled (class_at classes (class_of key)) moment).items key) o
+      → IsFitting (item_at (settled (class_at classes (class_of key)) moment).items key) o.effect
       → IsPartOf (plain_after_key (plain_settled p moment) key o) (class_of key) (after_key (settled (class_at classes (class_of key)) moment) key o) moment
-  after_here key o counting =
+  after_here key o fits =
       let class = class_of key in
       let s = class_at classes class in
       let t = settled s moment in
@@ -78,11 +76,11 @@ module _ (p : Plain) (classes : List Class) (moment : ℕ) (h : StandFor p class
       part_from (plain_after_key u key o) class (after_key t key o) moment (latest-le s.moment moment part.not_later)
       (record {
         number = part.number;
-        changes = at_class u.changes class o.changes;
-        most = counting.most part.most;
-        few = count-with_key-le t.items key o.item s.changes o.changes (omega (arith, count-settled-le s moment, part.few)) counting.growth;
+        changes = ap (λ changes. changes_after changes o.effect) part.changes ∙ at_class u.changes class (changes_after (u.changes class) o.effect);
+        bound = part.bound;
+        few = count-after_effect-le s.bound t.items key o.effect (omega (arith, count-settled-le s moment, part.few)) fits;
       })
-      (agree_settled class (after_key t key o) (plain_after_key u key o) moment (omega (arith, part.not_later, h.not_later)) (agree_after t u key o (agree_of p class s moment part)))
+      (agree_settled class (after_key t key o) (plain_after_key u key o) moment (omega (arith, part.not_later, h.not_later)) (agree_after t u key o part.bound (agree_of p class s moment part)))
 
   after_elsewhere :
       (key : List ℕ) (o : Outcome) (other : ℕ) → (other ≡ class_of key → ⊥) → IsPartOf p other (class_at classes other) moment
@@ -92,18 +90,19 @@ module _ (p : Plain) (classes : List Class) (moment : ℕ) (h : StandFor p class
       let u = plain_settled p moment in
       let counted = counted_of p other s moment part in
       part_from (plain_after_key u key o) other s moment part.not_later
-      (record { number = counted.number; changes = counted.changes ∙ at_other u.changes (class_of key) other o.changes n; most = counted.most; few = counted.few })
+      (record { number = counted.number; changes = counted.changes ∙ at_other u.changes (class_of key) other (changes_after (u.changes (class_of key)) o.effect) n; bound = counted.bound; few = counted.few })
       (agree_elsewhere other s (plain_after_key u key o) moment part.not_later most (latest_is p.moment moment h.not_later most)
       (agree_after_other other (settled s moment) u key o n (agree_of p other s moment part)))
 
   after_change :
       (key : List ℕ) (o : Outcome)
-      → IsCounting (settled (class_at classes (class_of key)) moment).changes (item_at (settled (class_at classes (class_of key)) moment).items key) o
+      → IsFitting (item_at (settled (class_at classes (class_of key)) moment).items key) o.effect
       → IsChange p classes (class_of key) (after_key (settled (class_at classes (class_of key)) moment) key o) (plain_after_key (plain_settled p moment) key o) moment
-  after_change key o counting = record {
+  after_change key o fits = record {
     inside = class_below key;
     not_later = latest-le p.moment moment h.not_later;
-    here = after_here key o counting;
+    bound = h.bound;
+    here = after_here key o fits;
     elsewhere = after_elsewhere key o;
     stored = stored-with_class classes (class_of key) (after_key (settled (class_at classes (class_of key)) moment) key o) o.is_store (omega (arith, class_below key, h.count)) refl
         ∙ ap (λ stored. stored_after stored o.is_store) h.stored;
@@ -114,8 +113,8 @@ module _ (p : Plain) (classes : List Class) (moment : ℕ) (h : StandFor p class
       let class = class_of key in
       let s = class_at classes class in
       let u = plain_settled p moment in
-      agree_at class (settled s moment) u (agree_of p class s moment (h.parts class (class_below key))) key
-      ∙ ap (λ mine. cond mine (item_at u.items key) None) (eq-eqb class class refl)
+      ap (λ items. item_at items key) (agree_of p class s moment (h.parts class (class_below key))).items
+      ∙ item_at-of_classes (λ k. k == class) u.items key (eq-eqb class class refl)
 
   -- the rows of the class say what the store's say
   same_outcome : (key : List ℕ) (op : KeyOp) → outcome_at (settled (class_at classes (class_of key)) moment) key op ≡ plain_outcome_at (plain_settled p moment) key op
@@ -134,7 +133,7 @@ module _ (p : Plain) (classes : List Class) (moment : ℕ) (h : StandFor p class
   key_change key op =
       let t = settled (class_at classes (class_of key)) moment in
       subst (λ (o : Outcome). IsChange p classes (class_of key) (after_key t key (outcome_at t key op)) (plain_after_key (plain_settled p moment) key o) moment) (same_outcome key op)
-      (after_change key (outcome_at t key op) (counts t.class t.moment t.changes op (item_at t.items key)))
+      (after_change key (outcome_at t key op) (outcome_fits t.class t.moment t.changes op (item_at t.items key)))
 
   -- ---- a part
 

@@ -16,13 +16,13 @@ stores-with_class : (classes : List Class) (class : ℕ) (s : Class) → class <
 unfolding stores
 stores-with_class classes class s lt =
     let stored : Class → ℕ = λ t. t.stored in
-    rw (sum-map stored (with_class classes class s), sum-map stored classes) (sum_by-set stored classes class s (new_class class 0) lt)
+    rw (sum-map stored (with_class classes class s), sum-map stored classes) (sum_by-set stored classes class s (new_class class 0 0) lt)
 
 stores_of_one : (classes : List Class) (class : ℕ) → class < length classes → (class_at classes class).stored ≤ stores classes
 unfolding stores
 stores_of_one classes class lt =
     let stored : Class → ℕ = λ t. t.stored in
-    rw (sum-map stored classes) (get_or-le-sum_by stored classes class (new_class class 0) lt)
+    rw (sum-map stored classes) (get_or-le-sum_by stored classes class (new_class class 0 0) lt)
 
 more_stored : (all more one new : ℕ) (is_store : Bool) → one ≤ all → more + one ≡ all + new → new ≡ stored_after one is_store → min more (2 ^ 64 - 1) ≡ stored_after (min all (2 ^ 64 - 1)) is_store
 more_stored all more one new true part both is = omega arith

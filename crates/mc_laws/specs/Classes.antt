@@ -1,16 +1,17 @@
 -- The 64 classes, each with a state of its own, in the order of their numbers.
 use Rattle.std.specs.Prelude.{ℕ, List, ◌++◌, map, take, drop, sum, min, ◌-◌, ◌^◌, slice_index_or, slice_set}
 use Rattle.std.specs.List.{range_with_len}
+use Rattle.mc_item.specs.declared.limits.TheConstants.{CLASSES}
 use Rattle.mc_model.specs.Items.{count_of}
 use Rattle.mc_model.specs.Class.{Class, new_class}
 
--- the classes before any operation
-abbrev pub new_classes : List Class
-new_classes = map (λ class. new_class class 0) (range_with_len 0 64)
+-- the classes before any operation, where each holds at most so many items
+abbrev pub new_classes : ℕ → List Class
+new_classes bound = map (λ class. new_class class 0 bound) (range_with_len 0 CLASSES)
 
 -- the class of a number
 abbrev pub class_at : List Class → ℕ → Class
-class_at classes class = slice_index_or classes class (new_class class 0)
+class_at classes class = slice_index_or classes class (new_class class 0 0)
 
 -- the classes, but that the one of a number is this
 abbrev pub with_class : List Class → ℕ → Class → List Class

@@ -1,5 +1,6 @@
 -- What the 64 classes reply to a command: each operation is one of one class, or of each class in turn.
 use Rattle.std.specs.Prelude.{◌≡◌, ℕ, ◌≤◌, ◌⊎◌, List, [], ◌∷◌}
+use Rattle.mc_item.specs.declared.limits.TheConstants.{CLASSES}
 use Rattle.mc_item.specs.Classes.{class_of}
 use Rattle.mc_model.specs.declared.message.Command.{Command}
 use Rattle.mc_model.specs.declared.message.Command.TheVariants as command
@@ -26,14 +27,14 @@ AreClassParts classes (part ∷ parts) moment new replies =
 -- a flush of each class; or memory was wanting, and so many of them are flushed, from the first on
 abbrev pub AreFlushed : List Class → ℕ → ℕ → List Class → List ShardReply → Type 0
 AreFlushed classes delay moment new replies =
-    ((new ≡ first_changed 64 (λ s. (flush_step s delay moment).0) classes) × (replies ≡ Flushed ∷ []))
-    ⊎ ((count : ℕ) × (count ≤ 64) × (new ≡ first_changed count (λ s. (flush_step s delay moment).0) classes) × (replies ≡ NoMemory ∷ []))
+    ((new ≡ first_changed CLASSES (λ s. (flush_step s delay moment).0) classes) × (replies ≡ Flushed ∷ []))
+    ⊎ ((count : ℕ) × (count ≤ CLASSES) × (new ≡ first_changed count (λ s. (flush_step s delay moment).0) classes) × (replies ≡ NoMemory ∷ []))
 
 -- a count over each class, which are all settled then; or memory was wanting, and so many of them are settled, from the first on
 abbrev pub AreCounted : List Class → ℕ → List Class → List ShardReply → Type 0
 AreCounted classes moment new replies =
-    ((new ≡ first_changed 64 (λ s. settled s moment) classes) × (replies ≡ Counts (held_by new) (stored_by new) ∷ []))
-    ⊎ ((count : ℕ) × (count ≤ 64) × (new ≡ first_changed count (λ s. settled s moment) classes) × (replies ≡ NoMemory ∷ []))
+    ((new ≡ first_changed CLASSES (λ s. settled s moment) classes) × (replies ≡ Counts (held_by new) (stored_by new) ∷ []))
+    ⊎ ((count : ℕ) × (count ≤ CLASSES) × (new ≡ first_changed count (λ s. settled s moment) classes) × (replies ≡ NoMemory ∷ []))
 
 -- From these states of the classes, a command at a moment has these replies and leaves the new ones.
 abbrev pub ClassesReply : List Class → Command → ℕ → List Class → List ShardReply → Type 0

@@ -1,4 +1,4 @@
-//! 64 classes are one map of all keys.
+//! 64 classes are one list of all items.
 ghost use Rattle.mc_laws.specs.Laws.{FirstClassesStand, ClassesStandLater, ClassesReplyAsOne, ClassesRunAsOne};
 
 /// The classes at first stand for the store at first.

@@ -1,26 +1,29 @@
--- The plain store, one map of all keys, and its runs over commands.
+-- The plain store, one list of the items of all keys, and its runs over commands.
 use Rattle.std.specs.Prelude.{◌≡◌, ℕ, zero, suc, ◌≤◌, ◌⊎◌, not, nat_le, ◌==◌, if◌then◌else◌, List, [], ◌∷◌, map, Option, Some, None}
+use Rattle.mc_item.specs.declared.limits.TheConstants.{CLASSES}
 use Rattle.mc_item.specs.Classes.{class_of}
 use Rattle.mc_model.specs.declared.message.Command.{Command}
 use Rattle.mc_model.specs.declared.message.Command.TheVariants as command
 use Rattle.mc_model.specs.declared.reply.ShardReply.{ShardReply}
 use Rattle.mc_model.specs.declared.reply.ShardReply.TheVariants.{Flushed, Counts, NoMemory}
 use Rattle.mc_model.specs.Moments.{latest}
-use Rattle.mc_model.specs.Items.{Items, no_items, item_at, count_of, live, of_classes, with_key}
-use Rattle.mc_model.specs.Rows.{KeyOp, Store, Get, Change, Touch, Delete, Outcome, outcome_of}
-use Rattle.mc_model.specs.Class.{is_flush_due, stored_after, flush_moment}
+use Rattle.mc_model.specs.Items.{Items, no_items, item_at, count_of, live, of_classes, first_of}
+use Rattle.mc_model.specs.Rows.{KeyOp, Store, Get, Change, Touch, Delete, Outcome, changes_after, outcome_of}
+use Rattle.mc_model.specs.Class.{is_flush_due, stored_after, after_effect, flush_moment}
 
 -- the items of all keys, and for each class its number of changes and the flush that waits
 pub record Plain : Type 0 where
+  -- how many items of one class there are at most
+  pub bound : ℕ
   pub items : Items
   pub moment : ℕ
   pub stored : ℕ
   pub changes : ℕ → ℕ
   pub pending : ℕ → Option ℕ
 
--- nothing stored yet
-abbrev pub new_store : Plain
-new_store = record { items = no_items; moment = 0; stored = 0; changes = λ class. 0; pending = λ class. None }
+-- nothing stored yet, where a class has at most so many items
+abbrev pub new_store : ℕ → Plain
+new_store bound = record { bound = bound; items = no_items; moment = 0; stored = 0; changes = λ class. 0; pending = λ class. None }
 
 -- a function, but that one class has this value
 abbrev pub update : {A : Type 0} → (ℕ → A) → ℕ → A → ℕ → A
@@ -29,6 +32,7 @@ update f class value k = if k == class then value else f k
 -- first the moment, then the items of each class whose flush is due go, then the items that are expired
 abbrev pub plain_settled : Plain → ℕ → Plain
 plain_settled p moment = let now = latest p.moment moment in record {
+  bound = p.bound;
   items = live now (of_classes (λ class. not (is_flush_due (p.pending class) now)) p.items);
   moment = now;
   stored = p.stored;
@@ -36,13 +40,14 @@ plain_settled p moment = let now = latest p.moment moment in record {
   pending = λ class. if is_flush_due (p.pending class) now then None else p.pending class;
 }
 
--- a settled store after an operation on a key
+-- a settled store after an operation on a key: where the key's class has more items than the bound, the last of that class goes
 abbrev pub plain_after_key : Plain → List ℕ → Outcome → Plain
 plain_after_key p key o = record {
-  items = with_key p.items key o.item;
+  bound = p.bound;
+  items = after_effect (first_of (λ class. class == class_of key) p.bound) p.items key o.effect;
   moment = p.moment;
   stored = stored_after p.stored o.is_store;
-  changes = update p.changes (class_of key) o.changes;
+  changes = update p.changes (class_of key) (changes_after (p.changes (class_of key)) o.effect);
   pending = p.pending;
 }
 
@@ -61,6 +66,7 @@ abbrev pub plain_flushed : ℕ → ℕ → ℕ → Plain → Plain
 plain_flushed class delay moment p =
     let t = plain_settled p moment in
     let flush_at = flush_moment moment delay in record {
+      bound = t.bound;
       items = if nat_le flush_at t.moment then of_classes (λ k. not (k == class)) t.items else t.items;
       moment = t.moment;
       stored = t.stored;
@@ -108,8 +114,8 @@ AreParts p (part ∷ parts) moment q replies =
 -- a flush of all 64 classes; or memory was wanting, and so many of them are flushed, from the first on
 abbrev pub IsFlush : Plain → ℕ → ℕ → Plain → List ShardReply → Type 0
 IsFlush p delay moment q replies =
-    ((q ≡ plain_flushed_below 64 delay moment p) × (replies ≡ Flushed ∷ []))
-    ⊎ ((classes : ℕ) × (classes ≤ 64) × (q ≡ plain_flushed_below classes delay moment p) × (replies ≡ NoMemory ∷ []))
+    ((q ≡ plain_flushed_below CLASSES delay moment p) × (replies ≡ Flushed ∷ []))
+    ⊎ ((classes : ℕ) × (classes ≤ CLASSES) × (q ≡ plain_flushed_below classes delay moment p) × (replies ≡ NoMemory ∷ []))
 
 -- a count of all items and stores; or memory was wanting, and nothing has changed
 abbrev pub IsCount : Plain → ℕ → Plain → List ShardReply → Type 0

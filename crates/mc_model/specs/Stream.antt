@@ -1,6 +1,7 @@
 -- The reading of a stream, on whole texts.
 use Rattle.std.specs.Prelude.{◌≡◌, ◌≢◌, ℕ, List, [], ◌∷◌, ◌++◌, length, nat_lt, if◌then◌else◌}
 use Rattle.std.specs.Str.{bytes_eq}
+use Rattle.mc_item.specs.declared.limits.TheConstants.{LARGEST_VALUE}
 use Rattle.mc_model.specs.declared.line.Header.{Header}
 use Rattle.mc_model.specs.declared.line.Saying.{Saying}
 use Rattle.mc_model.specs.declared.line.Saying.TheVariants.{Alone, Awaits}
@@ -8,14 +9,13 @@ use Rattle.mc_model.specs.declared.message.Command.TheVariants.{Store}
 use Rattle.mc_model.specs.declared.message.Fault.TheVariants.{BadChunk, TooLarge}
 use Rattle.mc_model.specs.declared.message.Message.{Message}
 use Rattle.mc_model.specs.declared.message.Message.TheVariants as message
-use Rattle.mc_model.specs.Rows.{most_length}
 use Rattle.mc_model.specs.Rendering.{crlf}
 use Rattle.mc_model.specs.Line.{IsLine, says}
 
 -- the message of a storage line, its block, and the tail after the block: too large whatever the tail, else a store where the tail is a line end alone
 abbrev pub stored : Header → List ℕ → List ℕ → Message
 stored h block tail =
-    if nat_lt most_length h.size then message.Fault (TooLarge h.quiet)
+    if nat_lt LARGEST_VALUE h.size then message.Fault (TooLarge h.quiet)
     else if bytes_eq tail crlf then message.Command (Store h.how h.key h.flags h.exptime block h.quiet)
     else message.Fault (BadChunk h.quiet)
 

@@ -2,7 +2,7 @@
 //! every item. It is what tests compare the class of `mc_shard` with.
 #![tactic(auto)]
 
-mod effect;
+mod deed;
 mod plain;
 mod rows;
 mod run;

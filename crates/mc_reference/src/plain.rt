@@ -1,29 +1,25 @@
 //! A class, and how it runs an operation.
-ghost use Rattle.std.specs.Prelude.{◌≡◌, ◌≤◌, ◌<◌, ◌^◌, IfOk, OnOk, option_copied, option_map};
-ghost use Rattle.std.specs.FinMap.{from_entries};
-ghost use Rattle.mc_model.specs.Items.{item_at, count_of, live, with_key};
-ghost use Rattle.mc_model.specs.Class.{new_class, is_flush_due, settled, standing, stored_after, after_key};
-ghost use Rattle.mc_shard.specs.Shard.{without_item, flushed_at};
-ghost use Rattle.mc_reference.specs.Effect.{outcome};
+ghost use Rattle.std.specs.Prelude.{◌≡◌, ◌≤◌, ◌<◌, take, IfOk, OnOk, option_copied, option_map};
+ghost use Rattle.mc_model.specs.Items.{item_at, count_of, live, without};
+ghost use Rattle.mc_model.specs.Rows.{changes_after};
+ghost use Rattle.mc_model.specs.Class.{new_class, is_flush_due, settled, standing, stored_after, after_effect, after_key};
+ghost use Rattle.mc_shard.specs.Shard.{flushed_at};
+ghost use Rattle.mc_reference.specs.Deed.{effect_of, outcome};
+ghost use Rattle.mc_reference.specs.Found.{is_live_at, live_item};
 
-use crate::effect::Effect;
-use mc_item::{Key, expired};
+use crate::deed::{Deed, Done};
+use mc_item::{CLASSES, Key, LATEST_TIME, MOST_CHANGES, MOST_ITEMS, expired};
 use mc_model::{Item, ShardReply};
 use std::alloc::{AllocError, Global};
-use std::collections::BTreeMap;
 use std::marker::Model;
-
-/// The greatest moment. A greater one counts as this.
-pub const LAST_MOMENT: u64 = 1 << 62;
-
-/// The most changes of a class.
-pub const MOST_CHANGES: u64 = (1 << 58) - 1;
 
 /// One class of the store: what its definition has, and nothing else.
 #[derive(Drop)]
 pub struct Plain {
     class: u32,
-    items: BTreeMap<Key, Item>,
+    bound: u32,
+    // The most recently used first.
+    items: Vec<(Key, Item)>,
     moment: u64,
     changes: u64,
     stored: u64,
@@ -33,7 +29,6 @@ pub struct Plain {
 }
 
 impl Model for Plain {
-    ghost use Rattle.std.specs.FinMap.{from_entries};
     ghost use Rattle.mc_model.specs.Class.{Class, class_code};
     ghost use Rattle.mc_shard.specs.Shard.{IsBounded};
 
@@ -41,29 +36,80 @@ impl Model for Plain {
 
     ghost coded = { class_code };
 
-    ghost view = { λ a. record { class = a.class; items = from_entries a.items.entries; moment = a.moment; changes = a.changes; stored = a.stored; pending = a.pending } };
+    ghost view = { λ a. record { class = a.class; bound = a.bound; items = a.items.items; moment = a.moment; changes = a.changes; stored = a.stored; pending = a.pending } };
 
-    ghost invariant = { λ a. IsBounded a.class a.moment a.changes };
+    ghost invariant = { λ a. IsBounded a.class a.bound a.moment a.changes };
 }
 
 // Takes out what is expired.
-fn drop_expired(items: &mut BTreeMap<Key, Item>, now: u64)
-    ensures { from_entries items.new.entries ≡ live now (from_entries items.old.entries) }
+fn drop_expired(items: &mut Vec<(Key, Item)>, now: u64)
+    ensures { items.new.items ≡ live now items.old.items }
 {
-    items.retain(|_key, item| !expired(item.due, now));
+    items.retain(|entry| !expired(entry.1.due, now));
 }
 
-// Gives a key this item, or none.
-fn put_item(items: &mut BTreeMap<Key, Item>, key: Key, item: Option<Item>) -> Result<(), AllocError>
-    ensures { OnOk result (from_entries items.new.entries ≡ with_key (from_entries items.old.entries) key item) }
+// Takes out the items of a key.
+fn drop_key(items: &mut Vec<(Key, Item)>, key: &Key)
+    ensures { items.new.items ≡ without items.old.items key.now }
 {
-    match item {
-        Some(item) => {
-            items.insert(key, item)?;
+    items.retain(|entry| *key != entry.0);
+}
+
+// The item of a key.
+fn find<'a>(items: &'a [(Key, Item)], key: &Key) -> Option<&'a Item>
+    ensures { option_copied result ≡ item_at items.now key.now }
+{
+    match items {
+        [] => None,
+        [first, rest @ ..] => {
+            if *key == first.0 {
+                Some(&first.1)
+            } else {
+                find(rest, key)
+            }
         }
-        None => {
-            items.remove(&key);
+    }
+}
+
+// Whether an entry is that of a key, and is not expired.
+fn is_live_at(entry: &(Key, Item), key: &Key, now: u64) -> bool
+    ensures { result ≡ is_live_at now key.now entry.now }
+{
+    *key == entry.0 && !expired(entry.1.due, now)
+}
+
+// The item of a key, if it has one that is not expired.
+fn find_live<'a>(items: &'a [(Key, Item)], key: &Key, now: u64) -> Option<&'a Item>
+    ensures { option_copied result ≡ live_item now key.now items.now }
+{
+    match items {
+        [] => None,
+        [first, rest @ ..] => {
+            if is_live_at(first, key, now) {
+                Some(&first.1)
+            } else {
+                find_live(rest, key, now)
+            }
         }
+    }
+}
+
+// Does to the item of a key what an operation does.
+fn apply(items: &mut Vec<(Key, Item)>, key: Key, deed: Deed, bound: u32) -> Result<(), AllocError>
+    ensures { OnOk result (items.new.items ≡ after_effect (take bound) items.old.items key (effect_of deed)) }
+{
+    match deed {
+        Deed::Keep => {}
+        Deed::Use(item) => {
+            drop_key(items, &key);
+            items.insert(0, (key, item))?;
+        }
+        Deed::Put(item) => {
+            drop_key(items, &key);
+            items.insert(0, (key, item))?;
+            items.truncate(bound as usize);
+        }
+        Deed::Remove => drop_key(items, &key),
     }
     Ok(())
 }
@@ -79,6 +125,17 @@ fn stored_after(stored: u64, is_store: bool) -> u64
     }
 }
 
+// The count of changes, one more for a put.
+fn changes_after(changes: u64, deed: &Deed) -> u64
+    requires { changes_after changes (effect_of deed.now) ≤ MOST_CHANGES }
+    ensures { result ≡ changes_after changes (effect_of deed.now) }
+{
+    match deed {
+        Deed::Put(_) => changes + 1,
+        Deed::Keep | Deed::Use(_) | Deed::Remove => changes,
+    }
+}
+
 fn is_flush_due(pending: Option<u64>, now: u64) -> bool
     ensures { result ≡ is_flush_due pending now }
 {
@@ -89,15 +146,19 @@ fn is_flush_due(pending: Option<u64>, now: u64) -> bool
 }
 
 impl Plain {
-    /// A class with no items, in which `first` changes were made before.
-    pub fn new(alloc: Global, class: u32, first: u64) -> Plain
-        requires class { class < 64 }
-        requires count { first < 2 ^ 58 }
-        ensures { result ≡ new_class class first }
+    /// A class with no items, in which `first` changes were made before, that holds at most `bound`
+    /// items.
+    pub fn new(alloc: Global, class: u32, first: u64, bound: u32) -> Plain
+        requires class { class < CLASSES }
+        requires count { first ≤ MOST_CHANGES }
+        requires some { 1 ≤ bound }
+        requires most { bound ≤ MOST_ITEMS }
+        ensures { result ≡ new_class class first bound }
     {
         Plain {
             class,
-            items: BTreeMap::new(alloc),
+            bound,
+            items: Vec::new(alloc),
             moment: 0,
             changes: first,
             stored: 0,
@@ -114,7 +175,7 @@ impl Plain {
     /// The number from which cas numbers are made.
     pub fn class(&self) -> u32
         ensures is { result ≡ self.now.class }
-        ensures below { result < 64 }
+        ensures below { result < CLASSES }
     {
         self.class
     }
@@ -122,7 +183,7 @@ impl Plain {
     /// The moment of the last operation.
     pub fn moment(&self) -> u64
         ensures is { result ≡ self.now.moment }
-        ensures below { result ≤ 2 ^ 62 }
+        ensures below { result ≤ LATEST_TIME }
     {
         self.moment
     }
@@ -130,7 +191,7 @@ impl Plain {
     /// How many changes there were.
     pub fn changes(&self) -> u64
         ensures is { result ≡ self.now.changes }
-        ensures below { result < 2 ^ 58 }
+        ensures below { result ≤ MOST_CHANGES }
     {
         self.changes
     }
@@ -160,14 +221,8 @@ impl Plain {
     pub fn value_of(&self, key: &Key) -> Option<&[u8]>
         ensures { option_copied result ≡ option_map (λ item. item.value) (item_at (standing self.now) key.now) }
     {
-        match self.items.get(key) {
-            Some(item) => {
-                if expired(item.due, self.moment) {
-                    None
-                } else {
-                    Some(item.value.get())
-                }
-            }
+        match find_live(&self.items, key, self.moment) {
+            Some(item) => Some(item.value.get()),
             None => None,
         }
     }
@@ -176,7 +231,7 @@ impl Plain {
     pub(crate) fn settle(&mut self, moment: u64)
         ensures { self.new ≡ settled self.old moment }
     {
-        self.moment = self.moment.max(moment.min(LAST_MOMENT));
+        self.moment = self.moment.max(moment.min(LATEST_TIME));
         if is_flush_due(self.pending, self.moment) {
             self.items.clear();
             self.pending = None;
@@ -184,13 +239,19 @@ impl Plain {
         drop_expired(&mut self.items, self.moment);
     }
 
-    /// Takes out what a key has at a moment.
-    pub(crate) fn take(&mut self, key: &Key, moment: u64) -> Option<Item>
-        ensures item { result ≡ item_at (settled self.old moment).items key.now }
-        ensures rest { self.new ≡ without_item (settled self.old moment) key.now }
+    /// A copy of the item that a key has.
+    pub(crate) fn item(&self, key: &Key) -> Result<Option<Item>, AllocError>
+        ensures { IfOk result (λ item. item ≡ item_at self.now.items key.now) }
     {
-        self.settle(moment);
-        self.items.remove(key)
+        match find(&self.items, key) {
+            Some(item) => Ok(Some(Item {
+                value: item.value.clone()?,
+                flags: item.flags,
+                due: item.due,
+                cas: item.cas,
+            })),
+            None => Ok(None),
+        }
     }
 
     /// All items go at a moment, or at once where it has come.
@@ -205,14 +266,18 @@ impl Plain {
         }
     }
 
-    /// Puts what an operation leaves of a key that was taken out.
-    pub(crate) fn put(mut self, key: Key, effect: Effect) -> Result<(Plain, ShardReply), AllocError>
-        requires { effect.changes < 2 ^ 58 }
-        ensures { IfOk result (λ done. done ≡ (after_key self key (outcome effect), effect.reply)) }
+    /// Does what an operation on a key does, and replies.
+    pub(crate) fn conclude(
+        mut self,
+        key: Key,
+        done: Done,
+    ) -> Result<(Plain, ShardReply), AllocError>
+        requires { changes_after self.changes (effect_of done.deed) ≤ MOST_CHANGES }
+        ensures { IfOk result (λ after. after ≡ (after_key self key (outcome done), done.reply)) }
     {
-        put_item(&mut self.items, key, effect.item)?;
-        self.changes = effect.changes;
-        self.stored = stored_after(self.stored, effect.is_store);
-        Ok((self, effect.reply))
+        self.changes = changes_after(self.changes, &done.deed);
+        self.stored = stored_after(self.stored, done.is_store);
+        apply(&mut self.items, key, done.deed, self.bound)?;
+        Ok((self, done.reply))
     }
 }

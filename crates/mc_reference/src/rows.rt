@@ -1,21 +1,18 @@
 //! What each operation on a key does, row by row, where the key has `before`.
-ghost use Rattle.std.specs.Prelude.{◌≡◌, ◌+◌, ◌<◌, ◌≤◌, ◌^◌, IfOk, length};
-ghost use Rattle.mc_model.specs.Rows.{most_length, most_changes, cas_of, refusal_of, stored_item, store_outcome, get_outcome, changed, change_outcome, touch_outcome, delete_outcome};
-ghost use Rattle.mc_reference.specs.Effect.{outcome};
+ghost use Rattle.std.specs.Prelude.{◌≡◌, ◌+◌, ◌<◌, ◌≤◌, IfOk, length};
+ghost use Rattle.mc_model.specs.Rows.{cas_of, refusal_of, stored_item, shows, changes_after, store_outcome, get_outcome, get_touch_outcome, changed, change_outcome, touch_outcome, delete_outcome};
+ghost use Rattle.mc_reference.specs.Deed.{effect_of, outcome};
 
-use crate::effect::{Effect, leaving};
-use crate::plain::{MOST_CHANGES, Plain};
+use crate::deed::{Deed, Done, refused, with_deed};
+use crate::plain::Plain;
 use mc_item::number::number;
-use mc_item::{Bytes, due};
+use mc_item::{Bytes, CLASSES, LARGEST_VALUE, MOST_CHANGES, due};
 use mc_model::{How, Item, ShardReply};
 use std::alloc::AllocError;
 
-// The most bytes of a value.
-const MOST_LENGTH: usize = 1_048_576;
-
 // What the item of the key says against a store of a value of this length.
 fn refusal(how: How, size: usize, before: &Option<Item>) -> Option<ShardReply>
-    requires { size ≤ most_length }
+    requires { size ≤ LARGEST_VALUE }
     ensures { result ≡ refusal_of how size before.now }
 {
     match before {
@@ -28,7 +25,7 @@ fn refusal(how: How, size: usize, before: &Option<Item>) -> Option<ShardReply>
             How::Set | How::Replace => None,
             How::Add => Some(ShardReply::NotStored),
             How::Append | How::Prepend => {
-                let is_large = MOST_LENGTH - size < item.value.len();
+                let is_large = LARGEST_VALUE - size < item.value.len();
                 is_large.then_some(ShardReply::TooLarge)
             }
             How::Cas(unique) => (item.cas != unique).then_some(ShardReply::Exists),
@@ -67,36 +64,47 @@ fn changed(up: bool, number: u64, by: u64) -> u64
     }
 }
 
+// A copy of what an item shows.
+fn shown(item: &Item) -> Result<ShardReply, AllocError>
+    ensures { IfOk result (λ reply. reply ≡ shows item.now) }
+{
+    Ok(ShardReply::Item {
+        flags: item.flags,
+        cas: item.cas,
+        value: item.value.clone()?,
+    })
+}
+
 impl Plain {
     // The cas number of the next change.
     fn next_cas(&self) -> u64
-        requires { self.now.changes < most_changes }
+        requires { self.now.changes < MOST_CHANGES }
         ensures { result ≡ cas_of self.now.class (self.now.changes + 1) }
     {
-        64 * (self.changes() + 1) + u64::from(self.class())
+        u64::from(CLASSES) * (self.changes() + 1) + u64::from(self.class())
     }
 
-    /// What a storage command leaves.
-    pub(crate) fn store_effect(
+    /// What a storage command does.
+    pub(crate) fn store_done(
         &self,
         how: How,
         flags: u32,
         exptime: i64,
         value: Bytes,
         before: Option<Item>,
-    ) -> Result<Effect, AllocError>
-        ensures outcome { IfOk result (λ effect. outcome effect ≡ store_outcome self.now.class self.now.moment self.now.changes how flags exptime value before) }
-        ensures count { IfOk result (λ effect. effect.changes < 2 ^ 58) }
+    ) -> Result<Done, AllocError>
+        ensures outcome { IfOk result (λ done. outcome done ≡ store_outcome self.now.class self.now.moment self.now.changes how flags exptime value before) }
+        ensures count { IfOk result (λ done. changes_after self.now.changes (effect_of done.deed) ≤ MOST_CHANGES) }
     {
         let changes = self.changes();
-        if MOST_LENGTH < value.len() {
-            return Ok(leaving(ShardReply::TooLarge, changes, before));
+        if LARGEST_VALUE < value.len() {
+            return Ok(refused(ShardReply::TooLarge));
         }
         if let Some(refusal) = refusal(how, value.len(), &before) {
-            return Ok(leaving(refusal, changes, before));
+            return Ok(refused(refusal));
         }
         if changes == MOST_CHANGES {
-            return Ok(leaving(ShardReply::OutOfCas, changes, before));
+            return Ok(refused(ShardReply::OutOfCas));
         }
         let fresh = Item {
             value,
@@ -104,82 +112,83 @@ impl Plain {
             due: due(exptime, self.moment()),
             cas: self.next_cas(),
         };
-        Ok(Effect {
+        Ok(Done {
             reply: ShardReply::Stored,
-            item: Some(stored_item(how, fresh, before)?),
-            changes: changes + 1,
+            deed: Deed::Put(stored_item(how, fresh, before)?),
             is_store: true,
         })
     }
 
-    /// What `get` leaves.
-    pub(crate) fn get_effect(&self, before: Option<Item>) -> Result<Effect, AllocError>
-        ensures outcome { IfOk result (λ effect. outcome effect ≡ get_outcome self.now.changes before) }
-        ensures count { IfOk result (λ effect. effect.changes < 2 ^ 58) }
+    /// What `get` does.
+    pub(crate) fn get_done(before: Option<Item>) -> Result<Done, AllocError>
+        ensures { IfOk result (λ done. outcome done ≡ get_outcome before) }
     {
-        let reply = match &before {
-            Some(item) => ShardReply::Item {
-                flags: item.flags,
-                cas: item.cas,
-                value: item.value.clone()?,
-            },
-            None => ShardReply::Missing,
+        let Some(item) = before else {
+            return Ok(refused(ShardReply::Missing));
         };
-        Ok(leaving(reply, self.changes(), before))
+        Ok(with_deed(shown(&item)?, Deed::Use(item)))
     }
 
-    /// What `incr` leaves where `up`, else `decr`.
-    pub(crate) fn change_effect(
+    /// What `gat` does.
+    pub(crate) fn get_touch_done(
+        &self,
+        exptime: i64,
+        before: Option<Item>,
+    ) -> Result<Done, AllocError>
+        ensures { IfOk result (λ done. outcome done ≡ get_touch_outcome self.now.moment exptime before) }
+    {
+        let Some(mut item) = before else {
+            return Ok(refused(ShardReply::Missing));
+        };
+        let reply = shown(&item)?;
+        item.due = due(exptime, self.moment());
+        Ok(with_deed(reply, Deed::Use(item)))
+    }
+
+    /// What `incr` does where `up`, else `decr`.
+    pub(crate) fn change_done(
         &self,
         up: bool,
         by: u64,
         before: Option<Item>,
-    ) -> Result<Effect, AllocError>
-        ensures outcome { IfOk result (λ effect. outcome effect ≡ change_outcome self.now.class self.now.changes up by before) }
-        ensures count { IfOk result (λ effect. effect.changes < 2 ^ 58) }
+    ) -> Result<Done, AllocError>
+        ensures outcome { IfOk result (λ done. outcome done ≡ change_outcome self.now.class self.now.changes up by before) }
+        ensures count { IfOk result (λ done. changes_after self.now.changes (effect_of done.deed) ≤ MOST_CHANGES) }
     {
         let changes = self.changes();
         let Some(mut item) = before else {
-            return Ok(leaving(ShardReply::NotFound, changes, None));
+            return Ok(refused(ShardReply::NotFound));
         };
         let Some(number) = number(item.value.get(), u64::MAX) else {
-            return Ok(leaving(ShardReply::NonNumeric, changes, Some(item)));
+            return Ok(refused(ShardReply::NonNumeric));
         };
         if changes == MOST_CHANGES {
-            return Ok(leaving(ShardReply::OutOfCas, changes, Some(item)));
+            return Ok(refused(ShardReply::OutOfCas));
         }
         let after = changed(up, number, by);
         item.value = Bytes::from(after.to_string(self.allocator())?.into_bytes());
         item.cas = self.next_cas();
-        Ok(Effect {
-            reply: ShardReply::Number(after),
-            item: Some(item),
-            changes: changes + 1,
-            is_store: false,
-        })
+        Ok(with_deed(ShardReply::Number(after), Deed::Put(item)))
     }
 
-    /// What `touch` leaves.
-    pub(crate) fn touch_effect(&self, exptime: i64, before: Option<Item>) -> Effect
-        ensures outcome { outcome result ≡ touch_outcome self.now.moment self.now.changes exptime before }
-        ensures count { result.changes < 2 ^ 58 }
+    /// What `touch` does.
+    pub(crate) fn touch_done(&self, exptime: i64, before: Option<Item>) -> Done
+        ensures { outcome result ≡ touch_outcome self.now.moment exptime before }
     {
         let Some(mut item) = before else {
-            return leaving(ShardReply::NotFound, self.changes(), None);
+            return refused(ShardReply::NotFound);
         };
         item.due = due(exptime, self.moment());
-        leaving(ShardReply::Touched, self.changes(), Some(item))
+        with_deed(ShardReply::Touched, Deed::Use(item))
     }
 
-    /// What `delete` leaves.
-    pub(crate) fn delete_effect(&self, before: Option<Item>) -> Effect
-        ensures outcome { outcome result ≡ delete_outcome self.now.changes before }
-        ensures count { result.changes < 2 ^ 58 }
+    /// What `delete` does.
+    pub(crate) fn delete_done(before: Option<Item>) -> Done
+        ensures { outcome result ≡ delete_outcome before }
     {
-        let reply = match before {
-            Some(_) => ShardReply::Deleted,
-            None => ShardReply::NotFound,
-        };
-        leaving(reply, self.changes(), None)
+        match before {
+            Some(_) => with_deed(ShardReply::Deleted, Deed::Remove),
+            None => refused(ShardReply::NotFound),
+        }
     }
 }

@@ -1,11 +1,11 @@
-//! How a class runs an operation: what the key has is taken out, and what the operation leaves is put.
+//! How a class runs an operation: by what the key has, and then what the operation does.
 ghost use Rattle.std.specs.Prelude.{◌≡◌, IfOk};
-ghost use Rattle.mc_model.specs.Rows.{Store, Get, Change, Touch, Delete};
+ghost use Rattle.mc_model.specs.Rows.{Store, Get, GetTouch, Change, Touch, Delete};
 ghost use Rattle.mc_model.specs.Class.{key_step, flush_step, count_step};
 ghost use Rattle.mc_shard.specs.Shard.{shard_step};
 
-use crate::plain::{LAST_MOMENT, Plain};
-use mc_item::{Bytes, Key};
+use crate::plain::Plain;
+use mc_item::{Bytes, Key, LATEST_TIME};
 use mc_model::{How, ShardReply};
 use mc_shard::ShardOp;
 use std::alloc::AllocError;
@@ -22,17 +22,33 @@ impl Plain {
     ) -> Result<(Plain, ShardReply), AllocError>
         ensures { IfOk result (λ done. done ≡ key_step self key (Store how flags exptime value) moment) }
     {
-        let before = self.take(&key, moment);
-        let effect = self.store_effect(how, flags, exptime, value, before)?;
-        self.put(key, effect)
+        self.settle(moment);
+        let before = self.item(&key)?;
+        let done = self.store_done(how, flags, exptime, value, before)?;
+        self.conclude(key, done)
     }
 
     fn get(mut self, key: Key, moment: u64) -> Result<(Plain, ShardReply), AllocError>
         ensures { IfOk result (λ done. done ≡ key_step self key Get moment) }
     {
-        let before = self.take(&key, moment);
-        let effect = self.get_effect(before)?;
-        self.put(key, effect)
+        self.settle(moment);
+        let before = self.item(&key)?;
+        let done = Plain::get_done(before)?;
+        self.conclude(key, done)
+    }
+
+    fn get_touch(
+        mut self,
+        key: Key,
+        exptime: i64,
+        moment: u64,
+    ) -> Result<(Plain, ShardReply), AllocError>
+        ensures { IfOk result (λ done. done ≡ key_step self key (GetTouch exptime) moment) }
+    {
+        self.settle(moment);
+        let before = self.item(&key)?;
+        let done = self.get_touch_done(exptime, before)?;
+        self.conclude(key, done)
     }
 
     fn change(
@@ -44,9 +60,10 @@ impl Plain {
     ) -> Result<(Plain, ShardReply), AllocError>
         ensures { IfOk result (λ done. done ≡ key_step self key (Change up by) moment) }
     {
-        let before = self.take(&key, moment);
-        let effect = self.change_effect(up, by, before)?;
-        self.put(key, effect)
+        self.settle(moment);
+        let before = self.item(&key)?;
+        let done = self.change_done(up, by, before)?;
+        self.conclude(key, done)
     }
 
     fn touch(
@@ -57,24 +74,26 @@ impl Plain {
     ) -> Result<(Plain, ShardReply), AllocError>
         ensures { IfOk result (λ done. done ≡ key_step self key (Touch exptime) moment) }
     {
-        let before = self.take(&key, moment);
-        let effect = self.touch_effect(exptime, before);
-        self.put(key, effect)
+        self.settle(moment);
+        let before = self.item(&key)?;
+        let done = self.touch_done(exptime, before);
+        self.conclude(key, done)
     }
 
     fn delete(mut self, key: Key, moment: u64) -> Result<(Plain, ShardReply), AllocError>
         ensures { IfOk result (λ done. done ≡ key_step self key Delete moment) }
     {
-        let before = self.take(&key, moment);
-        let effect = self.delete_effect(before);
-        self.put(key, effect)
+        self.settle(moment);
+        let before = self.item(&key)?;
+        let done = Plain::delete_done(before);
+        self.conclude(key, done)
     }
 
     fn flush(mut self, delay: u32, moment: u64) -> (Plain, ShardReply)
         ensures { result ≡ flush_step self delay moment }
     {
         self.settle(moment);
-        self.flush_at(moment.min(LAST_MOMENT) + u64::from(delay));
+        self.flush_at(moment.min(LATEST_TIME) + u64::from(delay));
         (self, ShardReply::Flushed)
     }
 
@@ -104,6 +123,11 @@ impl Plain {
                 moment,
             } => self.store(how, key, flags, exptime, value, moment),
             ShardOp::Get { key, moment } => self.get(key, moment),
+            ShardOp::GetTouch {
+                key,
+                exptime,
+                moment,
+            } => self.get_touch(key, exptime, moment),
             ShardOp::Change {
                 up,
                 key,

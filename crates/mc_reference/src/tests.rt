@@ -2,20 +2,22 @@
 ghost use Rattle.std.specs.Prelude.{◌<◌};
 
 use crate::Plain;
-use mc_item::{Bytes, Key};
+use mc_item::{Bytes, Key, MOST_CHANGES, USUAL_ITEMS};
 use mc_shard::{How, Shard, ShardOp, ShardReply};
 use std::alloc::Global;
+use std::hash::RandomState;
 use std::test::Fail;
 use tm_seq::Entrusted;
 
 const KEYS: [&str; 8] = ["a", "b", "c", "d", "e", "f", "g", "h"];
 
-const VALUES: [&str; 8] = [
+const VALUES: [&str; 9] = [
     "",
     "0",
     "007",
     "18446744073709551615",
     "18446744073709551616",
+    "18446744073709551599",
     "000000000000000000001",
     "12x",
     "some text",
@@ -99,7 +101,7 @@ fn drawn(dice: &mut Dice, now: u32, last_cas: u64) -> Draw {
         asks: dice.roll(80),
         how: how(dice, last_cas),
         key: KEYS[dice.roll(8) as usize],
-        value: VALUES[dice.roll(8) as usize],
+        value: VALUES[dice.roll(9) as usize],
         copies: 1,
         number: dice.roll(4) as u32,
         by: match dice.roll(4) {
@@ -140,7 +142,12 @@ fn operation_of(alloc: Global, draw: Draw) -> Result<ShardOp, Fail> {
             exptime,
             moment,
         },
-        17..=28 => ShardOp::Get { key, moment },
+        17..=25 => ShardOp::Get { key, moment },
+        26..=28 => ShardOp::GetTouch {
+            key,
+            exptime,
+            moment,
+        },
         29..=44 => ShardOp::Change {
             up,
             key,
@@ -236,9 +243,15 @@ fn step(
 fn same_as_plain(rt: HostRuntime) -> Result<(), Fail> {
     let alloc = rt.alloc();
     let mut seen = [0u32; 15];
-    for (class, first) in [(33, 0), (7, (1 << 58) - 600)] {
-        let mut shard = Shard::new(alloc, class, first)?;
-        let mut plain = Plain::new(alloc, class, first);
+    let hasher = RandomState::new(&rt)?;
+    for (class, first, bound) in [
+        (33, 0, USUAL_ITEMS),
+        (7, MOST_CHANGES - 600, 8),
+        (5, 0, 3),
+        (6, 0, 1),
+    ] {
+        let mut shard = Shard::new(alloc, class, first, bound, hasher)?;
+        let mut plain = Plain::new(alloc, class, first, bound);
         let mut dice = Dice { state: first };
         let mut now: u32 = 1_700_000_000;
         for count in 0..3000u32 {
@@ -258,18 +271,19 @@ fn same_as_plain(rt: HostRuntime) -> Result<(), Fail> {
             plain = next;
         }
     }
-    // All replies came, but for the two that want large values or memory.
+    // All replies came, but for the one that wants large values, and never that memory was wanting.
     for kind in [0, 1, 2, 3, 4, 5, 6, 7, 8, 9, 10, 12, 13] {
         assert!(rt; 20 <= seen[kind], "reply {kind}");
     }
+    assert_eq!(rt; seen[14], 0);
     Ok(())
 }
 
 #[test]
 fn same_as_plain_at_the_limit(rt: HostRuntime) -> Result<(), Fail> {
     let alloc = rt.alloc();
-    let mut shard = Shard::new(alloc, 5, 0)?;
-    let mut plain = Plain::new(alloc, 5, 0);
+    let mut shard = Shard::new(alloc, 5, 0, 1, RandomState::new(&rt)?)?;
+    let mut plain = Plain::new(alloc, 5, 0, 1);
     for (how, copies) in LONG_STORES {
         let drawn = Draw {
             asks: 79,
@@ -282,8 +296,8 @@ fn same_as_plain_at_the_limit(rt: HostRuntime) -> Result<(), Fail> {
             exptime: 0,
             moment: 1,
         };
-        let (next, _kind, same) = step(alloc, &mut shard, plain, drawn)?;
-        assert!(rt; same, "{how:?} {copies}");
+        let (next, kind, same) = step(alloc, &mut shard, plain, drawn)?;
+        assert!(rt; same && kind != 14, "{how:?} {copies}");
         plain = next;
     }
     Ok(())

@@ -61,13 +61,13 @@ any_more : (replies : List ShardReply) (r : ShardReply) → list_any is_no_memor
 any_more replies r = list_any-append is_no_memory replies (r ∷ []) ∙ ap (λ b. list_any is_no_memory replies || b) (lacks_one r)
 
 -- the reply to a get is an item, or none, or that memory was wanting
-outcome_found : (changes : ℕ) (o : Option Item) (key : List ℕ) (r : ShardReply) → r ≡ (get_outcome changes o).reply → items_of key r ≡ Some (found_of key r)
-outcome_found changes None key r e = rw e refl
-outcome_found changes (Some item) key r e = rw e refl
+outcome_found : (o : Option Item) (key : List ℕ) (r : ShardReply) → r ≡ (get_outcome o).reply → items_of key r ≡ Some (found_of key r)
+outcome_found None key r e = rw e refl
+outcome_found (Some item) key r e = rw e refl
 
 got_found : (classes : List Class) (key : List ℕ) (moment : ℕ) (new : List Class) (r : ShardReply) → IsClassPart classes (key, Get) moment new r → is_no_memory r ≡ false → items_of key r ≡ Some (found_of key r)
 got_found classes key moment new r here lacks =
-    elim here [ inl step ↦ outcome_found _ _ key r step.1 | inr none ↦ absurd (let e = ap is_no_memory none.1 in cc) ]
+    elim here [ inl step ↦ outcome_found _ key r step.1 | inr none ↦ absurd (let e = ap is_no_memory none.1 in cc) ]
 
 -- ---- the loop
 

@@ -9,6 +9,7 @@ use Rattle.mc_model.specs.Moments.{latest}
 use Rattle.mc_model.specs.Class.{Class, class_code}
 use Rattle.mc_model.specs.Showing.{shown_of}
 use Rattle.mc_model.specs.Rendering.{bytes_of}
+use Rattle.mc_item.specs.declared.limits.TheConstants.{USUAL_ITEMS}
 use Rattle.mc_laws.specs.Classes.{new_classes}
 use Rattle.mc_laws.specs.Replies.{ClassesReply}
 use Rattle.mc_session.specs.Answers.{IsBegun}
@@ -29,7 +30,7 @@ serving_code = code_by (List Class × (ℕ × List ℕ))
 
 -- before any command
 abbrev pub first_serving : Serving
-first_serving = record { classes = new_classes; moment = 0; out = [] }
+first_serving = record { classes = new_classes USUAL_ITEMS; moment = 0; out = [] }
 
 -- the bytes of what is shown stand behind those that are still to be written
 abbrev pub with_shown : Serving → Shown → Serving

@@ -6,9 +6,11 @@ ghost use Rattle.mc_session.specs.Asking.{IsAsked};
 use crate::request::Request;
 use crate::slot::Slot;
 use crate::trustee::Trustee;
+use mc_item::USUAL_ITEMS;
 use mc_model::ShardReply;
 use mc_shard::ShardOp;
 use std::alloc::{AllocError, Global};
+use std::hash::RandomState;
 use std::marker::Model;
 use tm_base::Gate;
 
@@ -37,10 +39,10 @@ impl Model for Asking {
 
 impl Asking {
     /// A trustee that owns 64 empty classes, and an empty slot.
-    pub(crate) fn new(alloc: Global) -> Result<Asking, AllocError>
-        ensures { IfOk result (λ a. a ≡ new_classes) }
+    pub(crate) fn new(alloc: Global, hasher: RandomState) -> Result<Asking, AllocError>
+        ensures { IfOk result (λ a. a ≡ new_classes USUAL_ITEMS) }
     {
-        let trustee = Trustee::new(alloc)?;
+        let trustee = Trustee::new(alloc, hasher)?;
         Ok(Asking {
             slot: Slot::new(),
             trustee,

@@ -12,6 +12,7 @@ use mc_item::{Bytes, LATEST_TIME};
 use mc_model::{Command, Fault};
 use mc_reply::render;
 use std::alloc::{AllocError, Global};
+use std::hash::RandomState;
 use std::marker::Model;
 use tm_base::{Clock, Failed, Gate, Sink, write_all};
 
@@ -51,11 +52,12 @@ impl Drop for Session {
 }
 
 impl Session {
-    /// A session before any command, at moment 0: 64 empty classes, and a trustee that owns them.
-    pub fn new(alloc: Global) -> Result<Session, AllocError>
+    /// A session before any command, at moment 0: 64 empty classes, each for at most 4,096 items, and a trustee that
+    /// owns them. Keys are found by `hasher`.
+    pub fn new(alloc: Global, hasher: RandomState) -> Result<Session, AllocError>
         ensures { IfOk result (λ s. s ≡ first_serving) }
     {
-        let asking = Asking::new(alloc)?;
+        let asking = Asking::new(alloc, hasher)?;
         Ok(Session {
             alloc,
             asking,

@@ -8,6 +8,7 @@ use crate::Session;
 use mc_item::{Bytes, Key};
 use mc_model::{Command, Fault, How, Keys};
 use std::alloc::Global;
+use std::hash::RandomState;
 use std::test::Fail;
 use tm_base::{Clock, CountingGate, FreeGate, MemClock, MemSink};
 
@@ -213,7 +214,7 @@ fn written(alloc: Global, session: &mut Session) -> Result<Vec<u8>, Fail> {
 fn rows(rt: HostRuntime) -> Result<(), Fail> {
     let alloc = rt.alloc();
     for row in ROWS {
-        let mut session = Session::new(alloc)?;
+        let mut session = Session::new(alloc, RandomState::new(&rt)?)?;
         let mut clock = MemClock::new(Vec::from_slice(alloc, row.readings)?);
         for ask in row.asks.split('|') {
             session.answer(command_of(alloc, ask)?, &mut clock, &FreeGate)?;
@@ -246,7 +247,7 @@ fn faults(rt: HostRuntime) -> Result<(), Fail> {
         ),
         (Fault::TooLarge { quiet: true }, b""),
     ];
-    let mut session = Session::new(alloc)?;
+    let mut session = Session::new(alloc, RandomState::new(&rt)?)?;
     for (fault, shows) in rows {
         session.show_fault(fault)?;
         let shown = written(alloc, &mut session)?;
@@ -259,7 +260,7 @@ fn faults(rt: HostRuntime) -> Result<(), Fail> {
 fn each_operation_passes_the_gate(rt: HostRuntime) -> Result<(), Fail> {
     let alloc = rt.alloc();
     let gate = CountingGate::new(1);
-    let mut session = Session::new(alloc)?;
+    let mut session = Session::new(alloc, RandomState::new(&rt)?)?;
     let mut clock = MemClock::new(vec![in alloc; 10, 11, 12, 13, 14, 15, 16, 17, 18]?);
     let asked: [(&str, u64); 8] = [
         ("set a 0 0 x", 1),
@@ -300,7 +301,7 @@ impl Clock for SilentClock {
 #[test]
 fn each_command_reads_a_silent_clock_once(rt: HostRuntime) -> Result<(), Fail> {
     let alloc = rt.alloc();
-    let mut session = Session::new(alloc)?;
+    let mut session = Session::new(alloc, RandomState::new(&rt)?)?;
     let mut clock = SilentClock { readings: 0 };
     // Each command, and the readings after it.
     let asked: [(&str, u64); 9] = [

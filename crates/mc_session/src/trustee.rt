@@ -4,9 +4,10 @@ ghost use Rattle.mc_laws.specs.Classes.{new_classes};
 ghost use Rattle.mc_session.specs.Slots.{IsServed};
 
 use crate::slot::Slot;
-use mc_item::CLASSES;
+use mc_item::{CLASSES, USUAL_ITEMS};
 use mc_shard::Shard;
 use std::alloc::{AllocError, Global};
+use std::hash::RandomState;
 use std::marker::Model;
 use tm_base::Gate;
 use tm_seq::Entrusted;
@@ -37,22 +38,22 @@ impl Model for Trustee {
 }
 
 // The 64 classes before any operation.
-fn new_shards(alloc: Global) -> Result<Vec<Shard>, AllocError>
-    ensures { IfOk result (λ shards. shards.items ≡ new_classes) }
+fn new_shards(alloc: Global, hasher: RandomState) -> Result<Vec<Shard>, AllocError>
+    ensures { IfOk result (λ shards. shards.items ≡ new_classes USUAL_ITEMS) }
 {
     let mut shards = Vec::new(alloc);
     for class in 0..CLASSES {
-        shards.push(Shard::new(alloc, class, 0)?)?;
+        shards.push(Shard::new(alloc, class, 0, USUAL_ITEMS, hasher)?)?;
     }
     Ok(shards)
 }
 
 impl Trustee {
     /// A trustee of 64 empty classes that has run no request.
-    pub(crate) fn new(alloc: Global) -> Result<Trustee, AllocError>
-        ensures { IfOk result (λ t. t ≡ new_classes) }
+    pub(crate) fn new(alloc: Global, hasher: RandomState) -> Result<Trustee, AllocError>
+        ensures { IfOk result (λ t. t ≡ new_classes USUAL_ITEMS) }
     {
-        let shards = new_shards(alloc)?;
+        let shards = new_shards(alloc, hasher)?;
         Ok(Trustee { shards, ran: 0 })
     }
 

@@ -1,6 +1,6 @@
-pub mod Live
-pub mod Tree
-pub mod Tight
+pub mod CacheFacts
+pub mod IndexFacts
+pub mod PutFacts
 pub mod Steps
 pub mod Settled
 pub mod Outcomes

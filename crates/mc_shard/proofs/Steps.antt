@@ -1,364 +1,343 @@
 -- The steps of the items, as they are seen from outside.
-use Rattle.mc_model.proofs.ItemFacts.{kept}
-use Rattle.std.proofs.Common.{◌≡◌, ℕ, ◌-◌, ◌≤◌, Bool, true, false, cond, not, ◌||◌, List, length, Option, Some, None, is_some, IsSome, IfSome, option_map, refl, sym, ap, subst, ◌∙◌}
-use Rattle.std.specs.Ordering.{nat_cmp}
-use Rattle.std.specs.Cmp.{eq_by_cmp_equiv}
-use Rattle.std.specs.Cmp.Lexicographic.{slice_cmp}
-use Rattle.std.specs.BTreeMap.{is_at}
-use Rattle.std.specs.FinMap.{get, insert, remove, len, get-insert, get-remove, len-remove}
-use Rattle.std.specs.List.Sorted.{IsStrictlySortedBy}
-use Rattle.std.specs.Map.{keys_of}
-use Rattle.mc_item.specs.declared.expiry.Expiry.{Expiry}
-use Rattle.mc_item.specs.declared.expiry.Expiry.TheVariants.{Never}
+use Rattle.std.proofs.Common.{◌≡◌, ℕ, zero, suc, ◌+◌, ◌-◌, ◌^◌, ◌<◌, ◌≤◌, Bool, true, false, cond, not, List, [], ◌∷◌, length, take, drop, Option, Some, None, IsSome, is_some, IfSome, option_map, refl, sym, ap, subst, ◌∙◌, arith}
+use Rattle.std.proofs.lemmas.Bool.{leb-true, le-leb}
+use Rattle.std.proofs.lemmas.List.{take_all, length-take}
+use Rattle.std.proofs.lemmas.List.Sums.{length-filter, count_by-le-length}
+use Rattle.std.specs.List.{filter, IsDistinct}
 use Rattle.mc_item.specs.Expiry.{is_expired}
+use Rattle.mc_item.specs.declared.expiry.Expiry.{Expiry}
+use Rattle.mc_item.specs.declared.expiry.Expiry.TheVariants.{Never, At}
 use Rattle.mc_model.specs.declared.item.Item.{Item}
-use Rattle.mc_model.specs.Items.{Items, is_live, live}
-use Rattle.mc_shard.specs.Kept.{Kept, item_in, tells_due, is_late, is_told, without, with_due, after_settle, after_put, after_change, after_expire, IsIndexed, IsSettled, IsInOrder, IsTight, GainsEntry, LosesEntry, due_of, has_entry, IsOnePut, SameItems, KeepsOthers, LosesKey, IsSwept, LosesLate}
-use Rattle.mc_shard.proofs.Live.{total, same, same_key, same_key-comm, kept-kept, still_expired, live-insert, insert-insert, settled_at, settled_live, settled_put, settled_late, unless}
-use Rattle.mc_shard.proofs.Tree.{map_of, get-map_of, get-live_map_of, len-map_of, one_put, same_items, told_more, indexed_put, indexed_same, indexed_late}
-use Rattle.mc_shard.proofs.Tight.{FitsDue, fits_kept, tight_put, tight_late, tight_out, tight_same, tight_undone, indexed_undone}
+use Rattle.mc_model.specs.Items.{Items, same_key, item_at, count_of, first, without, live}
+use Rattle.mc_model.proofs.ItemFacts.{filter_stricter}
+use Rattle.mc_shard.specs.Kept.{Kept, kept_at, with_late, after_settle, after_put, after_change, after_use, after_remove, due_of, IsPaired, IsInOrder}
+use Rattle.mc_shard.proofs.CacheFacts.{kept, item_at-live, live-without, live-first}
+use Rattle.mc_shard.proofs.IndexFacts.{paired_kept}
 
--- what entries at a moment are seen as
-abbrev pub kept_of : List (List ℕ × Item) → ℕ → Option (List ℕ) → Kept
-kept_of es moment late = record { items = map_of es; moment = moment; late = late }
+-- ---- what is expired stays so
 
-abbrev at : ℕ → Items → Option (List ℕ) → Kept
-at moment items late = record { items = items; moment = moment; late = late }
+pub still_expired : (due : Expiry) (now later : ℕ) → now ≤ later → is_expired due now ≡ true → is_expired due later ≡ true
+still_expired Never now later le e = e
+still_expired (At d) now later le e = le-leb d later (omega (arith, leb-true d now e))
 
--- ---- tests of what is live
+pub live_before : (due : Expiry) (now later : ℕ) → now ≤ later → is_expired due later ≡ false → is_expired due now ≡ false
+live_before due now later le e = (elim (is_expired due now) as (λ b. is_expired due now ≡ b → b ≡ false) [
+  | true ↦ λ h. absurd (let g = still_expired due now later le h in cc)
+  | false ↦ λ h. refl
+]) refl
 
-live_of_some : (b : Bool) (v : Item) → is_some (cond b (Some v) None) ≡ true → b ≡ true
-live_of_some true v e = refl
-live_of_some false v e = absurd cc
+length-filter-le : {X : Type 0} (p : X → Bool) (xs : List X) → length (filter p xs) ≤ length xs
+length-filter-le p xs = rw (length-filter p xs) (count_by-le-length p xs)
 
-not_false : (b : Bool) → not b ≡ true → b ≡ false
-not_false true e = absurd cc
-not_false false e = refl
+pub length-live-le : (now : ℕ) (es : Items) → length (live now es) ≤ length es
+unfolding live
+length-live-le now es = length-filter-le _ es
 
--- what is live is not expired
-pub not_expired : (now : ℕ) (v : Item) → is_live now (Some v) ≡ true → is_expired v.due now ≡ false
-not_expired now v h = not_false (is_expired v.due now) h
+pub length-without-le : (es : Items) (key : List ℕ) → length (without es key) ≤ length es
+unfolding without
+length-without-le es key = length-filter-le _ es
 
-pub alive_some : (now : ℕ) (v : Item) → is_live now (Some v) ≡ true → kept now (Some v) ≡ Some v
-alive_some now v h = rw h refl
+pub length-without-less : (es : Items) (key : List ℕ) (w : Item) → item_at es key ≡ Some w → suc (length (without es key)) ≤ length es
+unfolding without
+length-without-less [] key w there = absurd cc
+length-without-less (e ∷ es) key w there = (elim (same_key key e.0) as (λ b. cond b (Some e.1) (item_at es key) ≡ Some w → suc (length (cond (not b) (e ∷ without es key) (without es key))) ≤ suc (length es)) [
+  | true ↦ λ h. let le = length-without-le es key in omega (arith, le)
+  | false ↦ λ h. let less = length-without-less es key w h in omega (arith, less)
+]) there
 
--- what is live was live before
-pub live_before : (due : Expiry) (moment now : ℕ) → moment ≤ now → is_expired due now ≡ false → is_expired due moment ≡ false
-live_before due moment now le e =
-    elim (is_expired due moment) as (λ b. is_expired due moment ≡ b → b ≡ false) [
-      | true ↦ λ h. sym (still_expired due moment now le h) ∙ e
-      | false ↦ λ h. refl
-    ] refl
+pub live_twice : (now : ℕ) (es : Items) → live now (live now es) ≡ live now es
+unfolding live
+live_twice now es = filter_stricter _ _ es (λ e h. h)
 
-pub is_live_before : (moment now : ℕ) (v : Item) → moment ≤ now → is_expired v.due now ≡ false → is_live moment (Some v) ≡ true
-is_live_before moment now v le e = ap not (live_before v.due moment now le e)
+-- ---- the late item
 
--- ---- settling
+abbrev IsLate : ℕ → Option (List ℕ × Item) → Type 0
+IsLate moment late = IfSome late (λ e. is_expired e.1.due moment ≡ true)
 
-swept_late : (moment now : ℕ) (l : Bool) (o p : Option Item) → moment ≤ now → p ≡ cond l None o → kept moment o ≡ cond l None o → kept now p ≡ kept now o
-swept_late moment now l o p le is settled = ap (kept now) (is ∙ sym settled) ∙ kept-kept moment now o le
+-- the late item is not live
+pub live_late : (now moment : ℕ) (late : Option (List ℕ × Item)) (es : Items) → moment ≤ now → IsLate moment late → live now (with_late late es) ≡ live now es
+unfolding live
+live_late now moment None es le h = refl
+live_late now moment (Some e) es le h = rw (still_expired e.1.due moment now le h) refl
 
--- the late item goes, and then what is expired
-pub settle_view :
-    (moment now : ℕ) (es ds fs : List (List ℕ × Item)) (late : Option (List ℕ))
-    → moment ≤ now → IsSettled moment (map_of es) late → LosesLate late es ds → IsSwept now ds fs → map_of fs ≡ live now (map_of es)
-settle_view moment now es ds fs late le settled loses swept = same _ _ (λ q.
-    get-map_of fs q ∙ swept q
-    ∙ swept_late moment now (is_late late q) (item_in es q) (item_in ds q) le (loses q) (ap (kept moment) (sym (get-map_of es q)) ∙ settled_at moment (map_of es) late q settled ∙ ap (cond (is_late late q) None) (get-map_of es q))
-    ∙ sym (get-live_map_of now es q))
+length-late-le : (late : Option (List ℕ × Item)) (es fs : Items) → length fs ≤ length es → length (with_late late fs) ≤ length (with_late late es)
+length-late-le None es fs le = le
+length-late-le (Some e) es fs le = omega arith
 
--- and then all is in order
-pub settle_in_order :
-    (now : ℕ) (es fs : List (List ℕ × Item)) (index : List (ℕ × List ℕ)) (late : Option (List ℕ))
-    → map_of fs ≡ live now (map_of es) → IsIndexed fs index None → IsTight fs index None → late ≡ None → IsInOrder fs index late now
-settle_in_order now es fs index late is indexed tight none = rw none (record {
-  indexed = indexed;
-  tight = tight;
-  settled = let P : Items → Type 0 = λ m. IsSettled now m None in subst P (sym is) (settled_live now (map_of es));
+length-late : (late : Option (List ℕ × Item)) (es : Items) → length es ≤ length (with_late late es)
+length-late None es = omega arith
+length-late (Some e) es = omega arith
+
+-- where all is live at its moment, none is late
+pub none_late : (now : ℕ) (late : Option (List ℕ × Item)) (es rest : Items) → IsLate now late → with_late late es ≡ live now rest → late ≡ None
+none_late now None es rest h is = refl
+none_late now (Some e) es rest h is =
+    let all : live now (e ∷ es) ≡ e ∷ es = ap (live now) is ∙ live_twice now rest ∙ sym is in
+    let few = length-live-le now es in
+    absurd (let gone = sym (live_late now now (Some e) es (omega arith) h) ∙ all in let lengths = ap length gone in omega (arith, few, lengths))
+
+some_stays : (b : Bool) (w : Item) → IsSome (cond b None (Some w)) → b ≡ false
+some_stays true w h = absurd cc
+some_stays false w h = refl
+
+-- no items
+pub order_none : (es : Items) (cap : ℕ) (i : List (ℕ × List ℕ)) (moment bound : ℕ) → es ≡ [] → i ≡ [] → cap ≡ 2 ^ 64 - 1 → 1 ≤ bound → bound ≤ 65536 → IsInOrder es cap i None moment bound
+unfolding live IsDistinct
+order_none es cap i moment bound none empty far some most = rw (none, empty) (record {
+  paired = record { apart = tt; told = λ m q. refl };
+  fresh = refl;
+  late_expired = tt;
+  few = omega arith;
+  some = some;
+  most = most;
+  unbounded = far;
 })
 
-pub settled_is :
-    (moment now : ℕ) (es fs : List (List ℕ × Item)) (late late' : Option (List ℕ))
-    → map_of fs ≡ live now (map_of es) → late' ≡ None → kept_of fs now late' ≡ after_settle (kept_of es moment late) now
-settled_is moment now es fs late late' is none = ap (at now (map_of fs)) none ∙ ap (λ items. at now items None) is
+pub is_kept : (w : Item) (now : ℕ) → not (is_expired w.due now) ≡ is_some (kept now (Some w))
+is_kept w now = (elim (is_expired w.due now) as (λ b. not b ≡ is_some (cond b None (Some w))) [ true ↦ refl | false ↦ refl ])
 
--- ---- puts
+-- ---- where items are in order
 
--- an item that is not expired was put, and then what is expired has gone
-pub put_view :
-    (moment now : ℕ) (es fs : List (List ℕ × Item)) (late late' : Option (List ℕ)) (key : List ℕ) (v : Item)
-    → is_expired v.due now ≡ false → IsOnePut es fs key v
-    → after_settle (kept_of fs moment late') now ≡ after_put (kept_of es moment late) now key v
-put_view moment now es fs late late' key v stays put =
-    ap (λ items. at now items None) (ap (live now) (one_put es fs key v put) ∙ live-insert now (map_of es) key v (ap not stays))
-    ∙ sym (rw stays refl)
+module _ (es : Items) (cap : ℕ) (i : List (ℕ × List ℕ)) (late : Option (List ℕ × Item)) (moment bound : ℕ) (o : IsInOrder es cap i late moment bound) where
+  pub live_now : (now : ℕ) → moment ≤ now → live now (with_late late es) ≡ live now es
+  live_now now le = live_late now moment late es le o.late_expired
 
--- and before they go all is in order
-pub put_in_order :
-    (moment now : ℕ) (es fs : List (List ℕ × Item)) (index index' : List (ℕ × List ℕ)) (late : Option (List ℕ)) (key : List ℕ) (v : Item)
-    → moment ≤ now → is_expired v.due now ≡ false → IsOnePut es fs key v → KeepsOthers key index index' → tells_due index' key v.due ≡ true
-    → FitsDue key v.due index index'
-    → IsInOrder es index late moment → IsInOrder fs index' (unless late key) moment
-put_in_order moment now es fs index index' late key v le stays put more told fits h = record {
-  indexed = indexed_put es fs index index' late key v put more told h.indexed;
-  tight = tight_put es fs index index' late key v put fits h.tight;
-  settled = let P : Items → Type 0 = λ m. IsSettled moment m (unless late key) in
-      subst P (sym (one_put es fs key v put)) (settled_put moment (map_of es) late key v (is_live_before moment now v le stays) h.settled);
+  pub all_live_now : live moment (with_late late es) ≡ es
+  all_live_now = live_now moment (omega arith) ∙ o.fresh
+
+  pub few_kept : length es ≤ bound
+  few_kept = let le = length-late late es in omega (arith, le, o.few)
+
+  -- what a key has that is live
+  pub item_now : (now : ℕ) (key : List ℕ) → moment ≤ now → item_at (live now (with_late late es)) key ≡ kept now (item_at es key)
+  item_now now key le = ap (λ l. item_at l key) (live_now now le) ∙ item_at-live es now key o.paired.apart
+
+  -- after settling
+  pub order_settled : (fs : Items) (cap' now : ℕ) (j : List (ℕ × List ℕ)) → fs ≡ live now es → cap' ≡ cap → IsPaired fs j → IsInOrder fs cap' j None now bound
+  order_settled fs cap' now j is same_cap paired = record {
+    paired = paired;
+    fresh = ap (live now) is ∙ live_twice now es ∙ sym is;
+    late_expired = tt;
+    few = let le = length-live-le now es in let fits = few_kept in let lengths = ap length is in omega (arith, le, fits, lengths);
+    some = o.some;
+    most = o.most;
+    unbounded = same_cap ∙ o.unbounded;
+  }
+
+  pub settled_view : (fs : Items) (now : ℕ) → moment ≤ now → fs ≡ live now es → kept_at fs now bound ≡ after_settle (kept_at (with_late late es) moment bound) now
+  settled_view fs now le is = ap (λ l. kept_at l now bound) (is ∙ sym (live_now now le))
+
+  -- the same items, and another index
+  pub order_same : (fs : Items) (cap' : ℕ) (j : List (ℕ × List ℕ)) → fs ≡ es → cap' ≡ cap → IsPaired fs j → IsInOrder fs cap' j late moment bound
+  order_same fs cap' j same_items same_cap paired = record {
+    paired = paired;
+    fresh = ap (live moment) same_items ∙ o.fresh ∙ sym same_items;
+    late_expired = o.late_expired;
+    few = subst (λ l. length (with_late late l) ≤ bound) (sym same_items) o.few;
+    some = o.some;
+    most = o.most;
+    unbounded = same_cap ∙ o.unbounded;
+  }
+
+  -- without a key
+  pub order_without : (fs : Items) (cap' : ℕ) (j : List (ℕ × List ℕ)) (key : List ℕ) → fs ≡ without es key → cap' ≡ cap → IsPaired fs j → IsInOrder fs cap' j late moment bound
+  order_without fs cap' j key is same_cap paired = record {
+    paired = paired;
+    fresh = ap (live moment) is ∙ live-without moment es key ∙ ap (λ l. without l key) o.fresh ∙ sym is;
+    late_expired = o.late_expired;
+    few = subst (λ l. length (with_late late l) ≤ bound) (sym is) (let le = length-late-le late es (without es key) (length-without-le es key) in omega (arith, le, o.few));
+    some = o.some;
+    most = o.most;
+    unbounded = same_cap ∙ o.unbounded;
+  }
+
+  pub without_view : (fs : Items) (now : ℕ) (key : List ℕ) → moment ≤ now → fs ≡ without es key
+      → after_settle (kept_at (with_late late fs) moment bound) now ≡ after_remove (kept_at (with_late late es) moment bound) now key
+  without_view fs now key le is =
+      ap (λ l. kept_at l now bound) (live_late now moment late fs le o.late_expired ∙ ap (live now) is ∙ live-without now es key ∙ ap (λ l. without l key) (sym (live_now now le)))
+
+  -- an item that is there is changed, and goes first
+  module _ (change : Item → Item) (now : ℕ) (key : List ℕ) (le : moment ≤ now) (stays : (w : Item) → is_expired w.due now ≡ false → is_expired (change w).due now ≡ false) where
+    pub record IsThere : Type 0 where
+      pub item : Item
+      pub found : item_at es key ≡ Some item
+      pub stays_live : is_expired item.due now ≡ false
+      pub seen : item_at (live now (with_late late es)) key ≡ Some item
+
+    there_of : (b : Option Item) → item_at es key ≡ b → IsSome (kept now b) → IsThere
+    there_of None is h = absurd cc
+    there_of (Some w) is h =
+        let fresh = some_stays (is_expired w.due now) w h in
+        record { item = w; found = is; stays_live = fresh; seen = item_now now key le ∙ ap (kept now) is ∙ rw fresh refl }
+
+    pub there : IsSome (item_at (live now (with_late late es)) key) → IsThere
+    there h = there_of (item_at es key) refl (subst (λ o. IsSome o) (item_now now key le) h)
+
+    -- what the cache has then
+    pub changed_is : (fs : Items) (t : IsThere) → IfSome (item_at es key) (λ w. fs ≡ first es key (change w)) → fs ≡ first es key (change t.item)
+    changed_is fs t h = subst (λ o. IfSome o (λ w. fs ≡ first es key (change w))) t.found h
+
+    pub order_changed : (fs : Items) (cap' : ℕ) (j : List (ℕ × List ℕ)) (t : IsThere) → fs ≡ first es key (change t.item) → cap' ≡ cap → IsPaired fs j → IsInOrder fs cap' j late moment bound
+    unfolding first
+    order_changed fs cap' j t is same_cap paired = record {
+      paired = paired;
+      fresh = ap (live moment) is ∙ live-first moment es key (change t.item) (live_before (change t.item).due moment now le (stays t.item t.stays_live)) ∙ ap (λ l. first l key (change t.item)) o.fresh ∙ sym is;
+      late_expired = o.late_expired;
+      few = subst (λ l. length (with_late late l) ≤ bound) (sym is)
+          (let le = length-late-le late es (first es key (change t.item)) (length-without-less es key t.item t.found) in omega (arith, le, o.few));
+      some = o.some;
+      most = o.most;
+      unbounded = same_cap ∙ o.unbounded;
+    }
+
+    first_live : (fs : Items) (t : IsThere) → fs ≡ first es key (change t.item) → live now (with_late late fs) ≡ first (live now (with_late late es)) key (change t.item)
+    first_live fs t is =
+        live_late now moment late fs le o.late_expired ∙ ap (live now) is ∙ live-first now es key (change t.item) (stays t.item t.stays_live)
+        ∙ ap (λ l. first l key (change t.item)) (sym (live_now now le))
+
+    pub use_view : (fs : Items) (t : IsThere) → fs ≡ first es key (change t.item)
+        → after_settle (kept_at (with_late late fs) moment bound) now ≡ after_use change (kept_at (with_late late es) moment bound) now key (item_at (live now (with_late late es)) key)
+    use_view fs t is = ap (λ l. kept_at l now bound) (first_live fs t is) ∙ sym (ap (after_use change (kept_at (with_late late es) moment bound) now key) t.seen)
+
+    few_first : (t : IsThere) → length (first (live now (with_late late es)) key (change t.item)) ≤ bound
+    unfolding first
+    few_first t =
+        let less = length-without-less (live now (with_late late es)) key t.item t.seen in
+        let fewer = length-live-le now (with_late late es) in
+        omega (arith, less, fewer, o.few)
+
+    pub put_view : (fs : Items) (t : IsThere) → fs ≡ first es key (change t.item)
+        → after_settle (kept_at (with_late late fs) moment bound) now ≡ after_change change (kept_at (with_late late es) moment bound) now key (item_at (live now (with_late late es)) key)
+    put_view fs t is =
+        ap (λ l. kept_at l now bound) (first_live fs t is ∙ sym (take_all bound (first (live now (with_late late es)) key (change t.item)) (few_first t)))
+        ∙ sym (ap (after_change change (kept_at (with_late late es) moment bound) now key) t.seen)
+
+    -- where the due stays, so does the index
+    pub paired_changed : (fs : Items) (t : IsThere) → fs ≡ first es key (change t.item) → (change t.item).due ≡ t.item.due → IsPaired fs i
+    paired_changed fs t is same_due = subst (λ l. IsPaired l i) (sym is) (paired_kept es i key (change t.item) o.paired (same_due ∙ ap due_of (sym t.found)))
+
+-- ---- an item that is late
+
+-- the items at a moment that is settled, without a key
+pub record IsSettled (now : ℕ) (k : Kept) (key : List ℕ) (es : Items) (late : Option (List ℕ × Item)) (moment bound : ℕ) : Type 0 where
+  pub none : late ≡ None
+  pub items : es ≡ without (live now k.items) key
+  pub at : moment ≡ now
+  pub size : bound ≡ k.bound
+
+pub settled_parts :
+    (now : ℕ) (k : Kept) (key : List ℕ) (es : Items) (cap : ℕ) (i : List (ℕ × List ℕ)) (late : Option (List ℕ × Item)) (moment bound : ℕ)
+    → IsInOrder es cap i late moment bound → kept_at (with_late late es) moment bound ≡ after_remove k now key → IsSettled now k key es late moment bound
+settled_parts now k key es cap i late moment bound o is =
+    let at : moment ≡ now = ap (λ (k : Kept). k.moment) is in
+    let all : with_late late es ≡ without (live now k.items) key = ap (λ (k : Kept). k.items) is in
+    let none : late ≡ None = none_late now late es (without k.items key) (subst (λ m. IsLate m late) at o.late_expired) (all ∙ sym (live-without now k.items key)) in
+    record {
+      none = none;
+      items = ap (λ l. with_late l es) (sym none) ∙ all;
+      at = at;
+      size = ap (λ (k : Kept). k.bound) is;
+    }
+
+pub order_late :
+    (es fs : Items) (cap cap' : ℕ) (i j : List (ℕ × List ℕ)) (late : Option (List ℕ × Item)) (moment bound : ℕ) (key : List ℕ) (v : Item)
+    → IsInOrder es cap i late moment bound → live moment fs ≡ fs → cap' ≡ cap → IsPaired fs j → is_expired v.due moment ≡ true → suc (length fs) ≤ bound → IsInOrder fs cap' j (Some (key, v)) moment bound
+order_late es fs cap cap' i j late moment bound key v o fresh same_cap paired expired few = record {
+  paired = paired;
+  fresh = fresh;
+  late_expired = expired;
+  few = few;
+  some = o.some;
+  most = o.most;
+  unbounded = same_cap ∙ o.unbounded;
 }
 
--- ---- changes
+some_of : (o : Option Item) → IsSome o → (w : Item) × (o ≡ Some w)
+some_of None h = absurd cc
+some_of (Some w) h = (w, refl)
 
-none_of : (l : Bool) (v : Item) → ◌≡◌ {A = Option Item} (Some v) (cond l None (Some v)) → l ≡ false
-none_of true v e = absurd cc
-none_of false v e = refl
+pub few_used : (now : ℕ) (k : Kept) (key : List ℕ) (es : Items) (late : Option (List ℕ × Item)) (moment bound : ℕ)
+    → length k.items ≤ k.bound → IsSettled now k key es late moment bound → IsSome (item_at (live now k.items) key) → suc (length es) ≤ bound
+few_used now k key es late moment bound few s there =
+    let w = some_of (item_at (live now k.items) key) there in
+    let less = length-without-less (live now k.items) key w.0 w.1 in
+    let fewer = length-live-le now k.items in
+    let lengths = ap length s.items in
+    omega (arith, less, fewer, lengths, s.size, few)
 
--- a key whose item is live is not late
-pub not_late :
-    (moment now : ℕ) (es : List (List ℕ × Item)) (late : Option (List ℕ)) (key : List ℕ) (v : Item)
-    → moment ≤ now → IsSettled moment (map_of es) late → item_in es key ≡ Some v → is_expired v.due now ≡ false → is_late late key ≡ false
-not_late moment now es late key v le settled is stays =
-    none_of (is_late late key) v (
-    sym (alive_some moment v (is_live_before moment now v le stays))
-    ∙ ap (kept moment) (sym is ∙ sym (get-map_of es key))
-    ∙ settled_at moment (map_of es) late key settled
-    ∙ ap (cond (is_late late key) None) (get-map_of es key ∙ is))
+pub none_taken : (r : Option (List ℕ × Item)) (o : Option Item) → option_map (λ (e : List ℕ × Item). e.1) r ≡ o → r ≡ None → IsSome o → ⊥
+none_taken None o is none there = let none_there : None ≡ o = is in cc
+none_taken (Some e) o is none there = cc
 
--- what is changed does not expire by it
-abbrev pub StaysLive : (Item → Item) → ℕ → Type 0
-StaysLive f now = (v : Item) → is_expired v.due now ≡ false → is_expired (f v).due now ≡ false
+pub use_late_view :
+    (now : ℕ) (k : Kept) (key other : List ℕ) (change : Item → Item) (w : Item) (es : Items) (late : Option (List ℕ × Item)) (moment bound : ℕ)
+    → IsSettled now k key es late moment bound → other ≡ key → item_at (live now k.items) key ≡ Some w
+    → kept_at ((other, change w) ∷ es) moment bound ≡ after_use change k now key (item_at (live now k.items) key)
+unfolding first
+use_late_view now k key other change w es late moment bound s same_name seen =
+    ap (λ n. kept_at ((n, change w) ∷ es) moment bound) same_name
+    ∙ ap (λ l. kept_at ((key, change w) ∷ l) moment bound) s.items
+    ∙ ap (λ m. kept_at ((key, change w) ∷ without (live now k.items) key) m bound) s.at
+    ∙ ap (λ b. kept_at ((key, change w) ∷ without (live now k.items) key) now b) s.size
+    ∙ sym (ap (after_use change k now key) seen)
 
-change_by_item :
-    (f : Item → Item) (moment now : ℕ) (es fs : List (List ℕ × Item)) (late late' : Option (List ℕ)) (key : List ℕ) (o : Option Item)
-    → StaysLive f now → IsSome (kept now o) → IfSome o (λ v. IsOnePut es fs key (f v))
-    → after_settle (kept_of fs moment late') now ≡ after_change f (kept_of es moment late) now key (kept now o)
-change_by_item f moment now es fs late late' key None stays there put = absurd cc
-change_by_item f moment now es fs late late' key (Some v) stays there put =
-    let alive_v = live_of_some (is_live now (Some v)) v there in
-    put_view moment now es fs late late' key (f v) (stays v (not_expired now v alive_v)) put
-    ∙ sym (ap (after_change f (kept_of es moment late) now key) (alive_some now v alive_v))
+cons_take : {X : Type 0} (n : ℕ) (x : X) (xs : List X) → 1 ≤ n → x ∷ take (n - 1) xs ≡ take n (x ∷ xs)
+cons_take n x xs le = let is : n ≡ suc (n - 1) = omega arith in sym (ap (λ m. take m (x ∷ xs)) is)
 
--- an item that is there was changed, and then what is expired has gone
-pub change_view :
-    (f : Item → Item) (moment now : ℕ) (es fs : List (List ℕ × Item)) (late late' : Option (List ℕ)) (key : List ℕ)
-    → StaysLive f now → IsSome (get (live now (map_of es)) key) → IfSome (item_in es key) (λ v. IsOnePut es fs key (f v))
-    → after_settle (kept_of fs moment late') now ≡ after_change f (kept_of es moment late) now key (get (live now (map_of es)) key)
-change_view f moment now es fs late late' key stays there put =
-    change_by_item f moment now es fs late late' key (item_in es key) stays (rw (← get-live_map_of now es key) there) put
-    ∙ sym (ap (after_change f (kept_of es moment late) now key) (get-live_map_of now es key))
+pub put_late_view :
+    (now : ℕ) (k : Kept) (key : List ℕ) (v : Item) (es fs : Items) (late : Option (List ℕ × Item)) (moment bound : ℕ)
+    → IsSettled now k key es late moment bound → 1 ≤ bound → fs ≡ take (bound - 1) es → kept_at ((key, v) ∷ fs) moment bound ≡ after_put k now key v
+unfolding first
+put_late_view now k key v es fs late moment bound s some is =
+    ap (λ l. kept_at ((key, v) ∷ l) moment bound) (is ∙ ap (take (bound - 1)) s.items)
+    ∙ ap (λ l. kept_at l moment bound) (cons_take bound (key, v) (without (live now k.items) key) some)
+    ∙ ap (λ m. kept_at (take bound ((key, v) ∷ without (live now k.items) key)) m bound) s.at
+    ∙ ap (λ b. kept_at (take b ((key, v) ∷ without (live now k.items) key)) now b) s.size
 
--- the index tells of an item after its change
-abbrev pub TellsChange : (Item → Item) → List (List ℕ × Item) → List (ℕ × List ℕ) → Option (List ℕ) → List ℕ → Type 0
-TellsChange f es index late key = (v : Item) → item_in es key ≡ Some v → is_late late key ≡ false → tells_due index key (f v).due ≡ true
+-- what is live stays so in a front
+filter_cut : (now n : ℕ) (es : Items) → live now es ≡ es → live now (take n es) ≡ take n es
+unfolding live
+filter_cut now zero es h = refl
+filter_cut now (suc n) [] h = refl
+filter_cut now (suc n) (e ∷ es) h = (elim (is_expired e.1.due now) as (λ b. cond (not b) (e ∷ live now es) (live now es) ≡ e ∷ es → cond (not b) (e ∷ live now (take n es)) (live now (take n es)) ≡ e ∷ take n es) [
+  | true ↦ λ g. absurd (let le = length-live-le now es in let lengths = ap length g in omega (arith, le, lengths))
+  | false ↦ λ g. ap (λ l. e ∷ l) (filter_cut now n es (ap (drop 1) g))
+]) h
 
--- the entries of the key tell of an item after its change
-abbrev pub FitsChange : (Item → Item) → List (List ℕ × Item) → List ℕ → List (ℕ × List ℕ) → List (ℕ × List ℕ) → Type 0
-FitsChange f es key index index' = (v : Item) → item_in es key ≡ Some v → FitsDue key (f v).due index index'
+pub live_cut : (now n : ℕ) (es fs : Items) → live now es ≡ es → fs ≡ take n es → live now fs ≡ fs
+live_cut now n es fs h is = ap (live now) is ∙ filter_cut now n es h ∙ sym is
 
--- where the change keeps the due
-pub fits_change :
-    (f : Item → Item) (es : List (List ℕ × Item)) (index : List (ℕ × List ℕ)) (late : Option (List ℕ)) (key : List ℕ)
-    → ((v : Item) → (f v).due ≡ v.due) → IsTight es index late → FitsChange f es key index index
-fits_change f es index late key keeps tight v is = fits_kept es index late key (f v).due (keeps v ∙ sym (ap due_of is)) tight
+pub few_late : (bound : ℕ) (es fs : Items) → 1 ≤ bound → fs ≡ take (bound - 1) es → suc (length fs) ≤ bound
+few_late bound es fs some is = let lengths = ap length is in omega (arith, lengths, length-take (bound - 1) es)
 
-or_left_false : (a b : Bool) → a ≡ false → (a || b) ≡ true → b ≡ true
-or_left_false true b e h = absurd cc
-or_left_false false b e h = h
+-- ---- an item that is not late is put
+pub few_more : (now bound : ℕ) (es fs gs : Items) (key : List ℕ) (v : Item) → length es ≤ bound → fs ≡ first es key v → gs ≡ live now fs → length gs ≤ bound + 1
+unfolding first
+few_more now bound es fs gs key v few is cut =
+    let lengths = ap length is in let le = length-without-le es key in let less = length-live-le now fs in let all = ap length cut in
+    omega (arith, lengths, le, less, all, few)
 
--- where the change keeps the due
-pub tells_kept :
-    (f : Item → Item) (es : List (List ℕ × Item)) (index : List (ℕ × List ℕ)) (late : Option (List ℕ)) (key : List ℕ)
-    → ((v : Item) → (f v).due ≡ v.due) → IsIndexed es index late → TellsChange f es index late key
-tells_kept f es index late key keeps indexed v is apart =
-    ap (tells_due index key) (keeps v) ∙ or_left_false (is_late late key) _ apart (ap (is_told index late key) (sym is) ∙ indexed key)
-
-in_order_by_item :
-    (f : Item → Item) (moment now : ℕ) (es fs : List (List ℕ × Item)) (index index' : List (ℕ × List ℕ)) (late : Option (List ℕ)) (key : List ℕ) (o : Option Item)
-    → item_in es key ≡ o → moment ≤ now → StaysLive f now → IsSome (kept now o) → IfSome o (λ v. IsOnePut es fs key (f v))
-    → KeepsOthers key index index' → TellsChange f es index' late key → FitsChange f es key index index'
-    → IsInOrder es index late moment → IsInOrder fs index' late moment
-in_order_by_item f moment now es fs index index' late key None is le stays there put more told fits h = absurd cc
-in_order_by_item f moment now es fs index index' late key (Some v) is le stays there put more told fits h =
-    let fresh = not_expired now v (live_of_some (is_live now (Some v)) v there) in
-    let apart = not_late moment now es late key v le h.settled is fresh in
-    let P : Option (List ℕ) → Type 0 = λ l. IsInOrder fs index' l moment in
-    subst P (ap (λ b. cond b None late) apart)
-    (put_in_order moment now es fs index index' late key (f v) le (stays v fresh) put more (told v is apart) (fits v is) h)
-
--- and before they go all is in order
-pub change_in_order :
-    (f : Item → Item) (moment now : ℕ) (es fs : List (List ℕ × Item)) (index index' : List (ℕ × List ℕ)) (late : Option (List ℕ)) (key : List ℕ)
-    → moment ≤ now → StaysLive f now → IsSome (get (live now (map_of es)) key) → IfSome (item_in es key) (λ v. IsOnePut es fs key (f v))
-    → KeepsOthers key index index' → TellsChange f es index' late key → FitsChange f es key index index'
-    → IsInOrder es index late moment → IsInOrder fs index' late moment
-change_in_order f moment now es fs index index' late key le stays there put more told fits h =
-    in_order_by_item f moment now es fs index index' late key (item_in es key) refl le stays (rw (← get-live_map_of now es key) there) put more told fits h
-
--- the same items, and the same index
-pub same_in_order :
-    (moment : ℕ) (es fs : List (List ℕ × Item)) (index index' : List (ℕ × List ℕ)) (late : Option (List ℕ))
-    → SameItems es fs → index' ≡ index → IsInOrder es index late moment → IsInOrder fs index' late moment
-same_in_order moment es fs index index' late alike same h = record {
-  indexed = indexed_same es fs index index' late alike (λ m q has. ap (λ i. has_entry i m q) same ∙ has) h.indexed;
-  tight = tight_same es fs index index' late alike (λ m q has. ap (λ i. has_entry i m q) (sym same) ∙ has) h.tight;
-  settled = let P : Items → Type 0 = λ m. IsSettled moment m late in subst P (sym (same_items es fs alike)) h.settled;
+pub order_put :
+    (es gs : Items) (cap cap' now : ℕ) (i j : List (ℕ × List ℕ)) (late : Option (List ℕ × Item)) (moment bound : ℕ) (fs hs : Items)
+    → IsInOrder es cap i late moment bound → gs ≡ live now fs → hs ≡ take bound gs → cap' ≡ cap → IsPaired hs j → IsInOrder hs cap' j None now bound
+order_put es gs cap cap' now i j late moment bound fs hs o cut is same_cap paired = record {
+  paired = paired;
+  fresh = live_cut now bound gs hs (ap (live now) cut ∙ live_twice now fs ∙ sym cut) is;
+  late_expired = tt;
+  few = let lengths = ap length is in omega (arith, lengths, length-take bound gs);
+  some = o.some;
+  most = o.most;
+  unbounded = same_cap ∙ o.unbounded;
 }
 
--- the entry of a new item came and went
-pub undone_in_order :
-    (moment : ℕ) (es fs : List (List ℕ × Item)) (index more index' : List (ℕ × List ℕ)) (late : Option (List ℕ)) (key : List ℕ) (due : Expiry)
-    → fs ≡ es → item_in es key ≡ None → GainsEntry index more due key → LosesEntry more index' due Never key
-    → IsInOrder es index late moment → IsInOrder fs index' late moment
-undone_in_order moment es fs index more index' late key due same none gains loses h = rw same (record {
-  indexed = indexed_undone es index more index' late key due none gains loses h.indexed;
-  tight = tight_undone es index more index' late key due gains loses h.tight;
-  settled = h.settled;
-})
+pub put_live_view :
+    (es fs gs hs : Items) (cap now : ℕ) (i : List (ℕ × List ℕ)) (late : Option (List ℕ × Item)) (moment bound : ℕ) (key : List ℕ) (v : Item)
+    → IsInOrder es cap i late moment bound → moment ≤ now → is_expired v.due now ≡ false → fs ≡ first es key v → gs ≡ live now fs → hs ≡ take bound gs
+    → kept_at hs now bound ≡ after_put (kept_at (with_late late es) moment bound) now key v
+put_live_view es fs gs hs cap now i late moment bound key v o le stays is cut trimmed =
+    ap (λ l. kept_at l now bound) (trimmed ∙ ap (take bound) (cut ∙ ap (live now) is ∙ live-first now es key v stays ∙ ap (λ l. first l key v) (sym (live_now es cap i late moment bound o now le))))
 
--- ---- what is late
-
-expire_by_item :
-    (moment : ℕ) (es fs : List (List ℕ × Item)) (late : Option (List ℕ)) (key : List ℕ) (due : Expiry) (o : Option Item)
-    → IsSome o → IfSome o (λ v. IsOnePut es fs key (with_due due v))
-    → kept_of fs moment (Some key) ≡ after_expire (kept_of es moment late) key due o
-expire_by_item moment es fs late key due None there put = absurd cc
-expire_by_item moment es fs late key due (Some v) there put = ap (λ items. at moment items (Some key)) (one_put es fs key (with_due due v) put)
-
-pub expire_view :
-    (moment : ℕ) (es fs : List (List ℕ × Item)) (late : Option (List ℕ)) (key : List ℕ) (due : Expiry)
-    → IsSome (get (map_of es) key) → IfSome (item_in es key) (λ v. IsOnePut es fs key (with_due due v))
-    → kept_of fs moment (Some key) ≡ after_expire (kept_of es moment late) key due (get (map_of es) key)
-expire_view moment es fs late key due there put =
-    expire_by_item moment es fs late key due (item_in es key) (rw (← get-map_of es key) there) put
-    ∙ sym (ap (after_expire (kept_of es moment late) key due) (get-map_of es key))
-
-never_of : (due : Expiry) → ◌≡◌ {A = Option Expiry} (Some due) (Some Never) → due ≡ Never
-never_of due e = cc
-
-late_by_item :
-    (moment : ℕ) (es fs : List (List ℕ × Item)) (index : List (ℕ × List ℕ)) (key : List ℕ) (due : Expiry) (o : Option Item)
-    → is_expired due moment ≡ true → item_in es key ≡ o → option_map (λ item. item.due) o ≡ Some Never → IfSome o (λ v. IsOnePut es fs key (with_due due v))
-    → IsInOrder es index None moment → IsInOrder fs index (Some key) moment
-late_by_item moment es fs index key due None gone is lasts put h = absurd cc
-late_by_item moment es fs index key due (Some v) gone is lasts put h = record {
-  indexed = indexed_late es fs index key (with_due due v) put h.indexed;
-  tight = tight_late es fs index key (with_due due v) put (ap due_of is ∙ never_of v.due lasts) h.tight;
-  settled = let P : Items → Type 0 = λ m. IsSettled moment m (Some key) in
-      subst P (sym (one_put es fs key (with_due due v) put)) (settled_late moment (map_of es) key (with_due due v) (ap not gone) h.settled);
-}
-
-pub expire_in_order :
-    (moment : ℕ) (es fs : List (List ℕ × Item)) (index : List (ℕ × List ℕ)) (late : Option (List ℕ)) (key : List ℕ) (due : Expiry)
-    → late ≡ None → is_expired due moment ≡ true → option_map (λ item. item.due) (get (map_of es) key) ≡ Some Never → IfSome (item_in es key) (λ v. IsOnePut es fs key (with_due due v))
-    → IsInOrder es index late moment → IsInOrder fs index (Some key) moment
-expire_in_order moment es fs index late key due none gone lasts put h =
-    let P : Option (List ℕ) → Type 0 = λ l. IsInOrder es index l moment in
-    late_by_item moment es fs index key due (item_in es key) gone refl (ap (option_map (λ (item : Item). item.due)) (sym (get-map_of es key)) ∙ lasts) put (subst P none h)
-
-get_put : (items : Items) (key : List ℕ) (v : Item) → get (insert items key v) key ≡ Some v
-get_put items key v = get-insert total items key v key ∙ ap (λ b. cond b (Some v) (get items key)) ((eq_by_cmp_equiv total).refl key)
-
--- with its due
-pub put_lasts : (items : Items) (key : List ℕ) (v : Item) → option_map (λ item. item.due) (get (insert items key v) key) ≡ Some v.due
-put_lasts items key v = ap (option_map (λ (item : Item). item.due)) (get_put items key v)
-
--- what lasts is there
-pub lasts_there : (o : Option Item) (due : Expiry) → option_map (λ item. item.due) o ≡ Some due → IsSome o
-lasts_there None due e = absurd cc
-lasts_there (Some v) due e = refl
-
--- an item is put as one that never goes, and is then made one that is expired
-pub late_view :
-    (k : Kept) (now : ℕ) (key : List ℕ) (w v : Item) (due : Expiry) → v ≡ with_due due w → is_expired due now ≡ true
-    → after_expire (after_put k now key w) key due (get (after_put k now key w).items key) ≡ after_put k now key v
-late_view k now key w v due is gone =
-    ap (after_expire (after_put k now key w) key due) (get_put (live now k.items) key w)
-    ∙ ap (λ items. at now items (Some key)) (insert-insert (live now k.items) key w (with_due due w))
-    ∙ sym (ap (after_put k now key) is ∙ rw gone refl)
-
-late_by_change :
-    (k : Kept) (now : ℕ) (key : List ℕ) (due : Expiry) (o : Option Item) → is_expired due now ≡ true → IsSome o
-    → after_expire (after_change (with_due Never) k now key o) key due (get (after_change (with_due Never) k now key o).items key) ≡ after_change (with_due due) k now key o
-late_by_change k now key due None gone there = absurd cc
-late_by_change k now key due (Some v) gone there = late_view k now key (with_due Never v) (with_due due v) due refl gone
-
--- an item is changed to one that never goes, and is then made one that is expired
-pub late_change :
-    (k : Kept) (now : ℕ) (key : List ℕ) (due : Expiry) → is_expired due now ≡ true → IsSome (get (live now k.items) key)
-    → after_expire (after_change (with_due Never) k now key (get (live now k.items) key)) key due
-    (get (after_change (with_due Never) k now key (get (live now k.items) key)).items key)
-    ≡ after_change (with_due due) k now key (get (live now k.items) key)
-late_change k now key due gone there = late_by_change k now key due (get (live now k.items) key) gone there
-
-lasts_by_change :
-    (due : Expiry) (k : Kept) (now : ℕ) (key : List ℕ) (o : Option Item) → IsSome o → option_map (λ item. item.due) (get (after_change (with_due due) k now key o).items key) ≡ Some due
-lasts_by_change due k now key None there = absurd cc
-lasts_by_change due k now key (Some v) there = put_lasts (live now k.items) key (with_due due v)
-
--- an item whose due was changed has it
-pub change_lasts :
-    (due : Expiry) (k : Kept) (now : ℕ) (key : List ℕ) → IsSome (get (live now k.items) key)
-    → option_map (λ item. item.due) (get (after_change (with_due due) k now key (get (live now k.items) key)).items key) ≡ Some due
-change_lasts due k now key there = lasts_by_change due k now key (get (live now k.items) key) there
-
--- ---- taking out
-
-pub remove_view :
-    (es fs : List (List ℕ × Item)) (key : List ℕ)
-    → LosesKey es fs key → map_of fs ≡ remove (map_of es) key
-remove_view es fs key out = same _ _ (λ q.
-    get-map_of fs q ∙ out q ∙ ap (λ b. cond b None (item_in es q)) (same_key-comm key q)
-    ∙ sym (get-remove total (map_of es) key q ∙ ap (cond (same_key q key) None) (get-map_of es q)))
-
-out_told :
-    (index index' : List (ℕ × List ℕ)) (key q : List ℕ) (o : Option Item) → KeepsOthers key index index'
-    → is_told index None q o ≡ true → is_told index' None q (cond (is_at (slice_cmp nat_cmp key) q) None o) ≡ true
-out_told index index' key q o more h =
-    elim (is_at (slice_cmp nat_cmp key) q) as (λ b. same_key key q ≡ b → is_told index' None q (cond b None o) ≡ true) [
-      | true ↦ λ e. refl
-      | false ↦ λ e. told_more index index' None None q o (λ moment has. more moment q e has) refl h
-    ] refl
-
-out_settled : (moment : ℕ) (b : Bool) (o : Option Item) → kept moment o ≡ o → kept moment (cond b None o) ≡ cond b None o
-out_settled moment true o h = refl
-out_settled moment false o h = h
-
-pub remove_in_order :
-    (moment : ℕ) (es fs : List (List ℕ × Item)) (index index' : List (ℕ × List ℕ)) (late : Option (List ℕ)) (key : List ℕ)
-    → late ≡ None → LosesKey es fs key → KeepsOthers key index index' → FitsDue key Never index index'
-    → IsInOrder es index late moment → IsInOrder fs index' late moment
-unfolding without
-remove_in_order moment es fs index index' late key none out more fits h =
-    let P : Option (List ℕ) → Type 0 = λ l. IsInOrder es index l moment in
-    let g = subst P none h in
-    rw none (record {
-      indexed = λ q. ap (is_told index' None q) (out q) ∙ out_told index index' key q (item_in es q) more (g.indexed q);
-      tight = tight_out es fs index index' key out fits g.tight;
-      settled = same _ _ (λ q.
-          get-live_map_of moment fs q ∙ ap (kept moment) (out q)
-          ∙ out_settled moment (is_at (slice_cmp nat_cmp key) q) (item_in es q) (ap (kept moment) (sym (get-map_of es q)) ∙ settled_at moment (map_of es) None q g.settled ∙ get-map_of es q)
-          ∙ sym (get-map_of fs q ∙ out q));
-    })
-
--- ---- how many are live
-
-len_out : (n m : ℕ) (b : Bool) → n ≡ m → cond b (n - 1) n ≡ cond b (m - 1) m
-len_out n m b e = ap (λ k. cond b (k - 1) k) e
-
--- as many as there are entries, but for the late one
-pub held_view :
-    (moment : ℕ) (es : List (List ℕ × Item)) (late : Option (List ℕ)) (key : List ℕ)
-    → IsStrictlySortedBy (slice_cmp nat_cmp) (keys_of es) → IsSettled moment (map_of es) late → late ≡ Some key
-    → len (live moment (map_of es)) ≡ cond (is_some (item_in es key)) (length es - 1) (length es)
-unfolding without
-held_view moment es late key sorted settled is =
-    ap len (settled ∙ ap (without (map_of es)) is)
-    ∙ len-remove total (map_of es) key
-    ∙ ap (λ o. cond (is_some o) (len (map_of es) - 1) (len (map_of es))) (get-map_of es key)
-    ∙ len_out (len (map_of es)) (length es) (is_some (item_in es key)) (len-map_of es sorted)
-
-pub held_all :
-    (moment : ℕ) (es : List (List ℕ × Item)) (late : Option (List ℕ))
-    → IsStrictlySortedBy (slice_cmp nat_cmp) (keys_of es) → IsSettled moment (map_of es) late → late ≡ None
-    → len (live moment (map_of es)) ≡ length es
-unfolding without
-held_all moment es late sorted settled is = ap len (settled ∙ ap (without (map_of es)) is) ∙ len-map_of es sorted
+-- ---- what a look-up tells
+pub seen_of : (es : Items) (cap : ℕ) (i : List (ℕ × List ℕ)) (late : Option (List ℕ × Item)) (moment bound now : ℕ) (key : List ℕ) (o : Option Item)
+    → IsInOrder es cap i late moment bound → moment ≤ now → o ≡ item_at es key → kept now o ≡ item_at (live now (with_late late es)) key
+seen_of es cap i late moment bound now key o h le is = ap (kept now) is ∙ sym (item_now es cap i late moment bound h now key le)

@@ -2,6 +2,7 @@
 use Rattle.std.specs.Prelude.{◌≡◌, ℕ, ◌^◌, ◌↔◌, Bool, true, false, cond, IsTrue, List, length, nat_lt, ◌==◌, Option, Some, None, refl}
 use Rattle.std.proofs.Common.{ap}
 use Rattle.tm_seq.specs.Kind.{KindLaws}
+use Rattle.mc_item.specs.declared.limits.TheConstants.{LARGEST_VALUE, MOST_CHANGES}
 use Rattle.mc_item.specs.Numbers.{number_below}
 use Rattle.mc_model.specs.declared.item.Item.{Item}
 use Rattle.mc_model.specs.declared.message.How.{How}
@@ -9,7 +10,7 @@ use Rattle.mc_model.specs.declared.message.How.TheVariants.{Set, Add, Replace, A
 use Rattle.mc_model.specs.declared.reply.ShardReply.{ShardReply}
 use Rattle.mc_model.specs.declared.reply.ShardReply.TheVariants as reply
 use Rattle.mc_model.specs.Items.{item_at}
-use Rattle.mc_model.specs.Rows.{Outcome, KeyOp, Store, Get, Change, Touch, Delete, most_length, most_changes, refusal_of, store_unless, change_number, outcome_of}
+use Rattle.mc_model.specs.Rows.{Outcome, KeyOp, Store, Get, GetTouch, Change, Touch, Delete, refusal_of, store_unless, change_number, outcome_of}
 use Rattle.mc_model.specs.Class.{Class, settled, key_step}
 use Rattle.mc_model.specs.Showing.{is_no_memory}
 use Rattle.mc_shard.specs.declared.op.ShardOp.{ShardOp}
@@ -66,19 +67,21 @@ either : (b : Bool) (x y : Outcome) → is_no_memory x.reply ≡ false → is_no
 either true x y h g = h
 either false x y h g = g
 
-unless_other : (o : Option ShardReply) (changes : ℕ) (before : Option Item) (item : Item) → IsOther o → is_no_memory (store_unless o changes before item).reply ≡ false
-unless_other (Some r) changes before item h = h
-unless_other None changes before item h = either (changes == most_changes) _ _ refl refl
+unless_other : (o : Option ShardReply) (changes : ℕ) (item : Item) → IsOther o → is_no_memory (store_unless o changes item).reply ≡ false
+unless_other (Some r) changes item h = h
+unless_other None changes item h = either (changes == MOST_CHANGES) _ _ refl refl
 
 number_other : (class changes : ℕ) (up : Bool) (by : ℕ) (item : Item) (number : Option ℕ) → is_no_memory (change_number class changes up by item number).reply ≡ false
 number_other class changes up by item None = refl
-number_other class changes up by item (Some number) = either (changes == most_changes) _ _ refl refl
+number_other class changes up by item (Some number) = either (changes == MOST_CHANGES) _ _ refl refl
 
 outcome_other : (class moment changes : ℕ) (op : KeyOp) (before : Option Item) → is_no_memory (outcome_of class moment changes op before).reply ≡ false
 outcome_other class moment changes (Store how flags exptime value) before =
-    either (nat_lt most_length (length value)) _ _ refl (unless_other _ changes before _ (refusal_other how (length value) before))
+    either (nat_lt LARGEST_VALUE (length value)) _ _ refl (unless_other _ changes _ (refusal_other how (length value) before))
 outcome_other class moment changes Get None = refl
 outcome_other class moment changes Get (Some item) = refl
+outcome_other class moment changes (GetTouch exptime) None = refl
+outcome_other class moment changes (GetTouch exptime) (Some item) = refl
 outcome_other class moment changes (Change up by) None = refl
 outcome_other class moment changes (Change up by) (Some item) = number_other class changes up by item (number_below (2 ^ 64) item.value)
 outcome_other class moment changes (Touch exptime) None = refl
@@ -92,6 +95,7 @@ key_other s moment key o = let t = settled s moment in outcome_other t.class t.m
 step_other : (s : Class) (o : ShardOp) → is_no_memory (shard_step s o).1 ≡ false
 step_other s (op.Store how key flags exptime value moment) = key_other s moment key (Store how flags exptime value)
 step_other s (op.Get key moment) = key_other s moment key Get
+step_other s (op.GetTouch key exptime moment) = key_other s moment key (GetTouch exptime)
 step_other s (op.Change up key by moment) = key_other s moment key (Change up by)
 step_other s (op.Touch key exptime moment) = key_other s moment key (Touch exptime)
 step_other s (op.Delete key moment) = key_other s moment key Delete

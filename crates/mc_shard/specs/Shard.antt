@@ -1,15 +1,15 @@
 -- A class as a kind of object.
-use Rattle.std.specs.Prelude.{ℕ, ◌<◌, ◌≤◌, ◌^◌, nat_lt, nat_le, ◌==◌, if◌then◌else◌, List, Option, Some, None, Result, Ok, Err}
-use Rattle.std.specs.FinMap as map
+use Rattle.std.specs.Prelude.{ℕ, ◌<◌, ◌≤◌, ◌^◌, nat_lt, nat_le, take, ◌==◌, if◌then◌else◌, List, Option, Some, None, Result, Ok, Err}
 use Rattle.tm_seq.specs.Kind.{Kind}
 use Rattle.tm_seq.specs.declared.kind.Next.TheVariants.{Done}
+use Rattle.mc_item.specs.declared.limits.TheConstants.{CLASSES, LATEST_TIME, LARGEST_VALUE, MOST_CHANGES, MOST_ITEMS}
 use Rattle.mc_item.specs.Numbers.{number_below}
 use Rattle.mc_model.specs.declared.item.Item.{Item}
 use Rattle.mc_model.specs.declared.message.How.{How}
 use Rattle.mc_model.specs.declared.reply.ShardReply.{ShardReply}
 use Rattle.mc_model.specs.declared.reply.ShardReply.TheVariants as reply
-use Rattle.mc_model.specs.Rows.{Store, Get, Change, Touch, Delete, most_length, most_changes, refusal_of}
-use Rattle.mc_model.specs.Items.{no_items}
+use Rattle.mc_model.specs.Rows.{Store, Get, GetTouch, Change, Touch, Delete, refusal_of}
+use Rattle.mc_model.specs.Items.{Items, no_items, first, without}
 use Rattle.mc_model.specs.Class.{Class, key_step, flush_step, count_step}
 use Rattle.mc_model.specs.Showing.{is_no_memory}
 use Rattle.mc_shard.specs.declared.op.ShardOp.{ShardOp}
@@ -20,6 +20,7 @@ use Rattle.mc_shard.specs.declared.op.NoTask.{NoTask}
 abbrev pub shard_step : Class → ShardOp → Class × ShardReply
 shard_step s (op.Store how key flags exptime value moment) = key_step s key (Store how flags exptime value) moment
 shard_step s (op.Get key moment) = key_step s key Get moment
+shard_step s (op.GetTouch key exptime moment) = key_step s key (GetTouch exptime) moment
 shard_step s (op.Change up key by moment) = key_step s key (Change up by) moment
 shard_step s (op.Touch key exptime moment) = key_step s key (Touch exptime) moment
 shard_step s (op.Delete key moment) = key_step s key Delete moment
@@ -37,42 +38,48 @@ shard_kind = record {
 }
 
 -- the bounds that a class keeps
-pub record IsBounded (class moment changes : ℕ) : Type 0 where
-  pub number : class < 64
-  pub time : moment ≤ 2 ^ 62
-  pub count : changes < 2 ^ 58
+pub record IsBounded (class bound moment changes : ℕ) : Type 0 where
+  pub number : class < CLASSES
+  pub some : 1 ≤ bound
+  pub most : bound ≤ MOST_ITEMS
+  pub time : moment ≤ LATEST_TIME
+  pub count : changes ≤ MOST_CHANGES
 
--- a class, but that a key has this item
-abbrev pub with_item : Class → List ℕ → Item → Class
-with_item s key item = record {
+-- a class, but that it has these items
+abbrev pub with_items : Class → Items → Class
+with_items s items = record {
   class = s.class;
-  items = map.insert s.items key item;
+  bound = s.bound;
+  items = items;
   moment = s.moment;
   changes = s.changes;
   stored = s.stored;
   pending = s.pending;
 }
 
--- a class, but that the item of a key is changed where there is one
+-- a class, but that this item is put for a key
+abbrev pub with_item : Class → List ℕ → Item → Class
+with_item s key item = with_items s (take s.bound (first s.items key item))
+
+-- a class, but that the item of a key is put again, changed, where there is one
 abbrev pub with_change : (Item → Item) → Class → List ℕ → Option Item → Class
 with_change change s key None = s
 with_change change s key (Some item) = with_item s key (change item)
 
+-- a class, but that the item of a key is used and changed, where there is one
+abbrev pub with_use : (Item → Item) → Class → List ℕ → Option Item → Class
+with_use change s key None = s
+with_use change s key (Some item) = with_items s (first s.items key (change item))
+
 -- a class, but that a key has no item
 abbrev pub without_item : Class → List ℕ → Class
-without_item s key = record {
-  class = s.class;
-  items = map.remove s.items key;
-  moment = s.moment;
-  changes = s.changes;
-  stored = s.stored;
-  pending = s.pending;
-}
+without_item s key = with_items s (without s.items key)
 
 -- a class with a flush that waits for a moment, or that is done where it has come
 abbrev pub flushed_at : Class → ℕ → Class
 flushed_at s flush_at = record {
   class = s.class;
+  bound = s.bound;
   items = if nat_le flush_at s.moment then no_items else s.items;
   moment = s.moment;
   changes = s.changes;
@@ -83,17 +90,17 @@ flushed_at s flush_at = record {
 -- a reply for want of further changes, unless there is one already
 abbrev pub or_out_of_cas : Option ShardReply → ℕ → Option ShardReply
 or_out_of_cas (Some refusal) changes = Some refusal
-or_out_of_cas None changes = if changes == most_changes then Some reply.OutOfCas else None
+or_out_of_cas None changes = if changes == MOST_CHANGES then Some reply.OutOfCas else None
 
 -- why a store is refused, where the key has this
 abbrev pub store_refusal : How → ℕ → ℕ → Option Item → Option ShardReply
 store_refusal how size changes before =
-    if nat_lt most_length size then Some reply.TooLarge else or_out_of_cas (refusal_of how size before) changes
+    if nat_lt LARGEST_VALUE size then Some reply.TooLarge else or_out_of_cas (refusal_of how size before) changes
 
 -- a number that a change reads, unless no change is left
 abbrev pub read_number : ℕ → Option ℕ → Result ℕ ShardReply
 read_number changes None = Err reply.NonNumeric
-read_number changes (Some number) = if changes == most_changes then Err reply.OutOfCas else Ok number
+read_number changes (Some number) = if changes == MOST_CHANGES then Err reply.OutOfCas else Ok number
 
 -- the number that a change reads, where the key has this, or why it is refused
 abbrev pub number_of : ℕ → Option Item → Result ℕ ShardReply

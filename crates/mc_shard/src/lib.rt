@@ -1,12 +1,13 @@
 //! One class of the store: its items, and what each operation does to them.
 #![tactic(auto)]
 
-mod edits;
+mod cache;
+mod index;
 mod items;
 mod kind;
 mod op;
 mod shard;
-mod sweep;
+mod state;
 
 pub use mc_model::{How, ShardReply};
 pub use op::{NoTask, ShardOp};

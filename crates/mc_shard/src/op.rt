@@ -19,6 +19,12 @@ pub enum ShardOp {
         key: Key,
         moment: u64,
     },
+    /// Gets an item, which goes at another time.
+    GetTouch {
+        key: Key,
+        exptime: i64,
+        moment: u64,
+    },
     /// `incr` where `up`, else `decr`.
     Change {
         up: bool,

@@ -1,8 +1,9 @@
 //! Rows of memcached's commands, run on a class of number 33, and each read once.
 
 use crate::{How, Shard, ShardOp, ShardReply};
-use mc_item::{Bytes, Key};
+use mc_item::{Bytes, Key, MOST_CHANGES, USUAL_ITEMS};
 use std::alloc::{AllocError, Global};
+use std::hash::RandomState;
 use std::test::Fail;
 use tm_seq::Entrusted;
 
@@ -96,9 +97,12 @@ const TABLES: [&str; 13] = [
 1700000000 set n 0 0 abc = stored\n\
 1700000000 incr n 1 0 - = no number\n\
 1700000000 incr m 1 0 - = not found\n\
+1700000000 set n 0 0 18446744073709551614 = stored\n\
+1700000000 incr n 1 0 - = 18446744073709551615\n\
+1700000000 decr n 1 0 - = 18446744073709551614\n\
 1700000000 set n 0 0 18446744073709551616 = stored\n\
 1700000000 decr n 1 0 - = no number\n\
-1700000000 get n 0 0 - = 0 417 18446744073709551616",
+1700000000 get n 0 0 - = 0 609 18446744073709551616",
     "\
 1000000000 set a 0 2592000 x = stored\n\
 1000000000 set b 0 2592001 x = stored\n\
@@ -117,6 +121,63 @@ const TABLES: [&str; 13] = [
 9223372036854775807 set a 0 60 z = stored\n\
 0 get a 0 0 - = 0 225 z\n\
 4611686018427387904 count - 0 0 - = 1 of 3",
+];
+
+// Each text is run on a class of its own, that holds at most two items.
+const SMALL_TABLES: [&str; 7] = [
+    "\
+1 set a 0 0 x = stored\n\
+1 set ! 0 0 y = stored\n\
+1 get a 0 0 - = 0 97 x\n\
+1 set 0Q 0 0 z = stored\n\
+1 get a 0 0 - = 0 97 x\n\
+1 get ! 0 0 - = missing\n\
+1 get 0Q 0 0 - = 0 225 z\n\
+1 count - 0 0 - = 2 of 3",
+    "\
+100 set a 0 10 x = stored\n\
+105 gat a 0 20 - = 0 97 x\n\
+105 gat b 0 20 - = missing\n\
+115 get a 0 0 - = 0 97 x\n\
+125 get a 0 0 - = missing",
+    "\
+1 set a 0 0 x = stored\n\
+1 set ! 0 0 y = stored\n\
+1 cas-1 a 0 0 w = exists\n\
+1 set 0Q 0 0 z = stored\n\
+1 get a 0 0 - = missing",
+    "\
+100 set ! 0 0 y = stored\n\
+100 set a 0 10 x = stored\n\
+110 set 0Q 0 0 z = stored\n\
+110 get ! 0 0 - = 0 97 y\n\
+110 get 0Q 0 0 - = 0 225 z",
+    "\
+50 set a 0 0 x = stored\n\
+50 set ! 0 0 y = stored\n\
+50 set 0Q 0 -1 z = stored\n\
+50 get a 0 0 - = missing\n\
+50 get ! 0 0 - = 0 161 y\n\
+50 get 0Q 0 0 - = missing\n\
+50 count - 0 0 - = 1 of 3",
+    "\
+50 set a 0 0 x = stored\n\
+50 gat a 0 -1 - = 0 97 x\n\
+50 get a 0 0 - = missing\n\
+50 set a 0 0 y = stored\n\
+50 touch a 0 -1 - = touched\n\
+50 count - 0 0 - = 0 of 2",
+    "\
+50 set a 0 0 1 = stored\n\
+50 set ! 0 0 y = stored\n\
+50 incr a 1 0 - = 2\n\
+50 append ! 0 0 z = stored\n\
+50 touch a 0 60 - = touched\n\
+50 set 0Q 0 0 z = stored\n\
+50 get ! 0 0 - = missing\n\
+50 get a 0 0 - = 0 225 2\n\
+110 set b 0 0 w = stored\n\
+110 get 0Q 0 0 - = 0 353 z",
 ];
 
 fn word<'a>(rest: &mut &'a str) -> Result<&'a str, Fail> {
@@ -191,6 +252,11 @@ fn operation_of(alloc: Global, row: Row<'_>) -> Result<ShardOp, Fail> {
     Ok(match row.asks {
         "get" => ShardOp::Get { key, moment },
         "delete" => ShardOp::Delete { key, moment },
+        "gat" => ShardOp::GetTouch {
+            key,
+            exptime,
+            moment,
+        },
         "touch" => ShardOp::Touch {
             key,
             exptime,
@@ -248,7 +314,20 @@ fn said<S: Entrusted<Op = ShardOp, Reply = ShardReply>>(
 fn rows(rt: HostRuntime) -> Result<(), Fail> {
     let alloc = rt.alloc();
     for table in TABLES {
-        let mut shard = Shard::new(alloc, 33, 0)?;
+        let mut shard = Shard::new(alloc, 33, 0, USUAL_ITEMS, RandomState::new(&rt)?)?;
+        for line in table.lines() {
+            let reply = said(alloc, &mut shard, line)?;
+            assert_eq!(rt; reply.as_str(), row_of(line)?.want, "{line}");
+        }
+    }
+    Ok(())
+}
+
+#[test]
+fn small_classes(rt: HostRuntime) -> Result<(), Fail> {
+    let alloc = rt.alloc();
+    for table in SMALL_TABLES {
+        let mut shard = Shard::new(alloc, 33, 0, 2, RandomState::new(&rt)?)?;
         for line in table.lines() {
             let reply = said(alloc, &mut shard, line)?;
             assert_eq!(rt; reply.as_str(), row_of(line)?.want, "{line}");
@@ -272,14 +351,14 @@ fn large(alloc: Global, how: How, length: usize) -> Result<ShardOp, Fail> {
 #[test]
 fn limits(rt: HostRuntime) -> Result<(), Fail> {
     let alloc = rt.alloc();
-    let mut shard = Shard::new(alloc, 33, (1 << 58) - 2)?;
+    let mut shard = Shard::new(alloc, 33, MOST_CHANGES - 1, 2, RandomState::new(&rt)?)?;
     let last = "5 set a 7 0 x = stored\n5 set a 0 0 y = out of cas\n5 set b 0 0 y = out of cas\n\
         5 get a 0 0 - = 7 18446744073709551585 x";
     for line in last.lines() {
         let reply = said(alloc, &mut shard, line)?;
         assert_eq!(rt; reply.as_str(), row_of(line)?.want, "{line}");
     }
-    let mut shard = Shard::new(alloc, 0, 0)?;
+    let mut shard = Shard::new(alloc, 0, 0, 1, RandomState::new(&rt)?)?;
     for (how, length, want) in [
         (How::Set, 1_048_577, "too large"),
         (How::Set, 1_048_576, "stored"),
@@ -296,7 +375,7 @@ fn limits(rt: HostRuntime) -> Result<(), Fail> {
 #[test]
 fn reads(rt: HostRuntime) -> Result<(), Fail> {
     let alloc = rt.alloc();
-    let mut shard = Shard::new(alloc, 33, 5)?;
+    let mut shard = Shard::new(alloc, 33, 5, 3, RandomState::new(&rt)?)?;
     let asked = "1 set a 0 0 x = stored\n1 set b 0 -1 y = stored\n1 touch a 0 60 - = touched";
     for line in asked.lines() {
         said(alloc, &mut shard, line)?;

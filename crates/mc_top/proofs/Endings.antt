@@ -15,6 +15,7 @@ use Rattle.mc_grammar.specs.Progress.{IsUnfinished}
 use Rattle.mc_grammar.specs.Reading.{ReadsRest}
 use Rattle.mc_grammar.proofs.ReadFacts.{reads_rest}
 use Rattle.mc_grammar.proofs.Spellings.{reads_extend}
+use Rattle.mc_item.specs.declared.limits.TheConstants.{USUAL_ITEMS}
 use Rattle.mc_laws.specs.Classes.{new_classes}
 use Rattle.mc_laws.specs.Replies.{ClassesRun}
 use Rattle.mc_laws.proofs.Runs.{run_as_one}
@@ -30,9 +31,9 @@ use Rattle.mc_top.specs.Runs.{views, Outputs, AreAnswered, IsReadAs, IsAnswered,
 use Rattle.mc_top.proofs.Quitting.{until_front, until_there, has_front}
 
 -- the plain store has the replies of the classes
-outputs_of : (messages : List Message) (readings : List ℕ) (replies : List (List ShardReply)) (classes : List Class) → ClassesRun new_classes (commands_of messages) (moments_of readings) replies classes → Outputs messages readings (rendered (shown_of_all messages replies))
+outputs_of : (messages : List Message) (readings : List ℕ) (replies : List (List ShardReply)) (classes : List Class) → ClassesRun (new_classes USUAL_ITEMS) (commands_of messages) (moments_of readings) replies classes → Outputs messages readings (rendered (shown_of_all messages replies))
 outputs_of messages readings replies classes run =
-    let p = run_as_one (commands_of messages) readings replies classes run in
+    let p = run_as_one USUAL_ITEMS (commands_of messages) readings replies classes (omega arith) run in
     record { replies = replies; store = p.0; runs = p.1; shows = refl }
 
 module _ (most : ℕ) (input input_new clock clock_new written written_new : Option (List ℕ)) where

@@ -17,6 +17,7 @@ use Rattle.mc_grammar.specs.Progress.{Start}
 use Rattle.mc_grammar.specs.Reading.{IsRead, ReadsOn, ReadsItem, Comes, ReadsNext}
 use Rattle.mc_grammar.proofs.ReadFacts.{none_read}
 use Rattle.mc_grammar.proofs.Piecewise.{from_place}
+use Rattle.mc_item.specs.declared.limits.TheConstants.{USUAL_ITEMS}
 use Rattle.mc_laws.specs.Classes.{new_classes}
 use Rattle.mc_laws.specs.Replies.{ClassesReply}
 use Rattle.mc_session.specs.Session.{Serving, first_serving, with_shown, Answered}
@@ -66,14 +67,14 @@ module _ (bytes : List ℕ) (clock clock_new written written_new : Option (List 
         clock_read = grows_more clock clock_new clock_later s.readings (a.reading ∷ []) s.clock_read a.is_read;
         moment = at ∙ sym (last_moment_more 0 s.readings a.reading);
         runs = rw (commands_more s.messages c, moments_more 0 s.readings a.reading)
-            (runs_more new_classes session.classes new.classes (commands_of s.messages) (moments_of s.readings) s.replies c (latest (last_moment 0 s.readings) a.reading) a.replies s.runs
+            (runs_more (new_classes USUAL_ITEMS) session.classes new.classes (commands_of s.messages) (moments_of s.readings) s.replies c (latest (last_moment 0 s.readings) a.reading) a.replies s.runs
             (subst (λ (m : ℕ). ClassesReply session.classes c m new.classes a.replies) at a.reply));
         is_written = s.is_written;
         gathered =
             ap (λ (o : List ℕ). s.sent ++ o) a.shows
             ∙ sym (append_assoc s.sent session.out (bytes_of (shown_of c a.replies)))
             ∙ ap (λ (o : List ℕ). o ++ bytes_of (shown_of c a.replies)) s.gathered
-            ∙ sym (shown_more new_classes session.classes s.messages (moments_of s.readings) s.replies c a.replies s.runs);
+            ∙ sym (shown_more (new_classes USUAL_ITEMS) session.classes s.messages (moments_of s.readings) s.replies c a.replies s.runs);
       }
 
   served_fault : (more : List ℕ) (v : Progress) (fault : Fault) → IsRead (bytes ++ more) (s.messages ++ message.Fault fault ∷ []) v → IsServed (bytes ++ more) false clock clock_new written written_new v (with_shown session (shown_of_fault fault))
@@ -92,7 +93,7 @@ module _ (bytes : List ℕ) (clock clock_new written written_new : Option (List 
     gathered =
         sym (append_assoc s.sent session.out (bytes_of (shown_of_fault fault)))
         ∙ ap (λ (o : List ℕ). o ++ bytes_of (shown_of_fault fault)) s.gathered
-        ∙ sym (shown_fault new_classes session.classes s.messages (moments_of s.readings) s.replies fault s.runs);
+        ∙ sym (shown_fault (new_classes USUAL_ITEMS) session.classes s.messages (moments_of s.readings) s.replies fault s.runs);
   }
 
   served_bytes : (more : List ℕ) (v : Progress) → IsRead (bytes ++ more) s.messages v → IsServed (bytes ++ more) false clock clock_new written written_new v session

@@ -14,6 +14,7 @@ use Rattle.mc_grammar.specs.declared.progress.Progress.{Progress}
 use Rattle.mc_grammar.specs.declared.reader.Next.{Next}
 use Rattle.mc_grammar.specs.declared.reader.Next.TheVariants as next
 use Rattle.mc_grammar.specs.Reading.{IsRead}
+use Rattle.mc_item.specs.declared.limits.TheConstants.{USUAL_ITEMS}
 use Rattle.mc_laws.specs.Classes.{new_classes}
 use Rattle.mc_laws.specs.Replies.{ClassesRun}
 use Rattle.mc_session.specs.declared.session.TheConstants.{FULL}
@@ -66,7 +67,7 @@ pub record IsServed (bytes : List ℕ) (quit : Bool) (clock clock_new written wr
   pub until : until_quit messages ≡ messages
   pub clock_read : Grows clock clock_new readings
   pub moment : session.moment ≡ last_moment 0 readings
-  pub runs : ClassesRun new_classes (commands_of messages) (moments_of readings) replies session.classes
+  pub runs : ClassesRun (new_classes USUAL_ITEMS) (commands_of messages) (moments_of readings) replies session.classes
   pub is_written : Grows written written_new sent
   pub gathered : sent ++ session.out ≡ rendered (shown_of_all messages replies)
 
@@ -94,7 +95,7 @@ pub record IsCut (bytes : List ℕ) (clock clock_new written written_new : Optio
   pub until : until_quit messages ≡ messages
   pub once : length last_reading ≤ 1
   pub clock_read : Grows clock clock_new (readings ++ last_reading)
-  pub runs : ClassesRun new_classes (commands_of messages) (moments_of readings) replies classes
+  pub runs : ClassesRun (new_classes USUAL_ITEMS) (commands_of messages) (moments_of readings) replies classes
   pub is_written : (items : List ℕ) → written ≡ Some items → (count : ℕ) × (written_new ≡ Some (items ++ take count (rendered (shown_of_all messages replies))))
 
 -- whatever was served before, without a `quit`, a front of the piece is served as far as it came

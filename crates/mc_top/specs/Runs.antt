@@ -10,6 +10,7 @@ use Rattle.mc_model.specs.Stream.{Reads}
 use Rattle.mc_model.specs.Quits.{has_quit, until_quit}
 use Rattle.mc_model.specs.Showing.{commands_of, shown_of_all}
 use Rattle.mc_model.specs.Rendering.{rendered}
+use Rattle.mc_item.specs.declared.limits.TheConstants.{USUAL_ITEMS}
 use Rattle.mc_model.specs.Plain.{Plain, new_store, Runs}
 use Rattle.mc_top.specs.declared.status.Status.{Status}
 use Rattle.mc_top.specs.declared.top.TheConstants.{MOST_INPUT}
@@ -36,7 +37,7 @@ views input clock output = record { input = input; clock = clock; output = outpu
 pub record Outputs (messages : List Message) (readings : List ℕ) (output : List ℕ) : Type 0 where
   pub replies : List (List ShardReply)
   pub store : Plain
-  pub runs : Runs new_store (commands_of messages) (moments_of readings) replies store
+  pub runs : Runs (new_store USUAL_ITEMS) (commands_of messages) (moments_of readings) replies store
   pub shows : output ≡ rendered (shown_of_all messages replies)
 
 -- The clock was read once for each command, and the output of all messages is written.

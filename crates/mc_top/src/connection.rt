@@ -11,6 +11,7 @@ use crate::stop::Stop;
 use mc_grammar::Reader;
 use mc_session::Session;
 use std::alloc::{AllocError, Global};
+use std::hash::RandomState;
 use tm_base::{Clock, Gate, Sink, Source};
 
 /// How many bytes each read asks for.
@@ -66,6 +67,7 @@ pub(crate) fn answer_all<A: Source, B: Sink, W: Clock, G: Gate>(
     output: &mut B,
     clock: &mut W,
     gate: &G,
+    hasher: RandomState,
 ) -> Result<End, Stop>
     ensures does { Does most (status_of result)
         (views (A.left input.old) (W.readings clock.old) (B.written output.old))
@@ -75,7 +77,7 @@ pub(crate) fn answer_all<A: Source, B: Sink, W: Clock, G: Gate>(
     ensures no_read_fault { status_of result ≢ status.ReadFault → A.faults input.new ≡ A.faults input.old }
     ensures no_write_fault { status_of result ≢ status.WriteFault → B.faults output.new ≡ B.faults output.old }
 {
-    let Ok(mut session) = Session::new(alloc) else {
+    let Ok(mut session) = Session::new(alloc, hasher) else {
         return Err(Stop::NoMemory);
     };
     let Ok(mut buffer) = read_buffer(alloc) else {

@@ -8,7 +8,9 @@ ghost use Rattle.mc_top.specs.Runs.{views, Does, Exits};
 use crate::status::Status;
 use crate::top::{MOST_INPUT, top_in_turns};
 use std::env;
+use std::hash::RandomState;
 use std::process::ExitCode;
+use std::random::RandomSource;
 use std::rt::{Clock, Env};
 use tm_base::{FreeGate, Sink, Source, SystemClock};
 
@@ -22,8 +24,9 @@ fn words_of<R: Env + AllocGlobal>(rt: &R) -> Result<Vec<String>, Status>
         .map_err(|_| Status::NoMemory)
 }
 
-// A run on the words of the process and the system's clock.
-fn run<R: Env + AllocGlobal + Clock, A: Source, B: Sink>(
+// A run on the words of the process and the system's clock, with keys for hashes that nobody knows. Where the system
+// has none to give, that counts as want of memory.
+fn run<R: Env + AllocGlobal + Clock + RandomSource, A: Source, B: Sink>(
     rt: &R,
     input: &mut A,
     output: &mut B,
@@ -39,7 +42,18 @@ fn run<R: Env + AllocGlobal + Clock, A: Source, B: Sink>(
         Err(status) => return status,
     };
     let mut clock = SystemClock::new(rt);
-    top_in_turns(rt.alloc(), &words, input, output, &mut clock, &FreeGate)
+    let Ok(hasher) = RandomState::new(rt) else {
+        return Status::NoMemory;
+    };
+    top_in_turns(
+        rt.alloc(),
+        &words,
+        input,
+        output,
+        &mut clock,
+        &FreeGate,
+        hasher,
+    )
 }
 
 /// Says on standard error how a run of the program ended, unless it is [`Status::Ended`], and gives the exit status of
@@ -55,7 +69,7 @@ pub fn conclude<R: Eprint>(rt: &R, status: Status) -> ExitCode
 
 /// The whole program: [`top_in_turns`] on the words of the process, the system's clock and these two devices, which in
 /// `main` are standard input and output, and then [`conclude`].
-pub fn run_process<R: Env + AllocGlobal + Eprint + Clock, A: Source, B: Sink>(
+pub fn run_process<R: Env + AllocGlobal + Eprint + Clock + RandomSource, A: Source, B: Sink>(
     rt: &R,
     input: &mut A,
     output: &mut B,

@@ -45,7 +45,15 @@ fn run(
     let mut source = MemSource::new(Vec::from_slice(alloc, input)?, cuts, Vec::new(alloc));
     let mut sink = MemSink::new(alloc, 1 << 30, Vec::new(alloc));
     let mut clock = MemClock::new(Vec::from_slice(alloc, clock)?);
-    let status = top_in_turns(alloc, &words, &mut source, &mut sink, &mut clock, &FreeGate);
+    let status = top_in_turns(
+        alloc,
+        &words,
+        &mut source,
+        &mut sink,
+        &mut clock,
+        &FreeGate,
+        RandomState::new(&rt)?,
+    );
     Ok((Vec::from_slice(alloc, sink.bytes())?, status))
 }
 

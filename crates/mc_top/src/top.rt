@@ -8,6 +8,7 @@ use crate::status::Status;
 use crate::stop::Stop;
 use crate::words::are_lawful;
 use std::alloc::Global;
+use std::hash::RandomState;
 use tm_base::{Clock, Gate, Sink, Source};
 
 /// The most bytes of an input that are answered.
@@ -16,9 +17,9 @@ pub const MOST_INPUT: u64 = 1 << 40;
 /// Runs the program on the words behind its name, which are `run --turns` as yet.
 ///
 /// It reads the input as it comes, to its end or to a `quit`, at most 2^40 bytes. Each command is asked of the one
-/// trustee in turn, which owns the 64 classes, and what it shows is written in memcached's words. Before each read all
+/// trustee in turn, which owns the 64 classes, each of at most 4,096 items, and what it shows is written in memcached's words. Before each read all
 /// that came whole is answered and written. The clock is read once for each command, and the gate is passed before
-/// each operation of a class. The call always returns. What it keeps in memory is the items, one line or value of the
+/// each operation of a class. Keys are found by `hasher`. The call always returns. What it keeps in memory is the items, one line or value of the
 /// input, a read's buffer of 65,536 bytes, fewer than 65,536 bytes of output, and the reply to one command, which is held
 /// whole, and twice: as its values, and as its bytes.
 pub fn top_in_turns<A: Source, B: Sink, W: Clock, G: Gate>(
@@ -28,6 +29,7 @@ pub fn top_in_turns<A: Source, B: Sink, W: Clock, G: Gate>(
     output: &mut B,
     clock: &mut W,
     gate: &G,
+    hasher: RandomState,
 ) -> Status
     // The output is the plain store's for the messages of the input up to its first `quit`, at their moments: all of it
     // where the input ended, between two messages or inside one, had more than 2^40 bytes, or failed, for all that came
@@ -50,7 +52,7 @@ pub fn top_in_turns<A: Source, B: Sink, W: Clock, G: Gate>(
     if !are_lawful(words) {
         return Status::BadWords;
     }
-    match answer_all(alloc, MOST_INPUT, input, output, clock, gate) {
+    match answer_all(alloc, MOST_INPUT, input, output, clock, gate, hasher) {
         Ok(End::Between) => Status::Ended,
         Ok(End::Inside) => Status::EndedInside,
         Ok(End::TooMuch) => Status::TooMuch,

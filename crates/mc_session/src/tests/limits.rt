@@ -4,6 +4,7 @@ use crate::Session;
 use mc_item::{Bytes, Key, MOST_KEYS};
 use mc_model::{Command, How, Keys};
 use std::alloc::Global;
+use std::hash::RandomState;
 use std::test::Fail;
 use tm_base::{FreeGate, MemClock};
 
@@ -22,7 +23,7 @@ fn large(alloc: Global, how: How, length: usize) -> Result<Command, Fail> {
 #[test]
 fn large_values_fill_the_output(rt: HostRuntime) -> Result<(), Fail> {
     let alloc = rt.alloc();
-    let mut session = Session::new(alloc)?;
+    let mut session = Session::new(alloc, RandomState::new(&rt)?)?;
     let mut clock = MemClock::new(Vec::new(alloc));
     for (how, length) in [
         (How::Set, 1_048_576),
@@ -60,7 +61,7 @@ fn numbered(alloc: Global, count: usize) -> Result<Vec<Key>, Fail> {
 #[test]
 fn many_keys_are_found(rt: HostRuntime) -> Result<(), Fail> {
     let alloc = rt.alloc();
-    let mut session = Session::new(alloc)?;
+    let mut session = Session::new(alloc, RandomState::new(&rt)?)?;
     let mut clock = MemClock::new(Vec::new(alloc));
     let mut keys = Keys::new(alloc);
     let mut shows = Vec::new(alloc);

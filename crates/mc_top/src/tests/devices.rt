@@ -7,6 +7,7 @@ use crate::status::Status;
 use crate::stop::Stop;
 use crate::top::top_in_turns;
 use std::alloc::{AllocError, Global};
+use std::hash::RandomState;
 use std::process::Abort;
 use std::test::Fail;
 use tm_base::{Clock, CountingGate, Failed, FreeGate, MemClock, MemSink, MemSource, Source};
@@ -26,7 +27,15 @@ fn run_failing(
     let mut source = MemSource::new(Vec::from_slice(alloc, SAMPLE)?, cuts, failing);
     let mut sink = MemSink::new(alloc, 1 << 30, Vec::new(alloc));
     let mut clock = MemClock::new(vec![in alloc; NOW]?);
-    let status = top_in_turns(alloc, &words, &mut source, &mut sink, &mut clock, &FreeGate);
+    let status = top_in_turns(
+        alloc,
+        &words,
+        &mut source,
+        &mut sink,
+        &mut clock,
+        &FreeGate,
+        RandomState::new(&rt)?,
+    );
     Ok((Vec::from_slice(alloc, sink.bytes())?, status))
 }
 
@@ -63,7 +72,15 @@ fn nothing_is_read_after_the_end(rt: HostRuntime) -> Result<(), Fail> {
         let mut source = MemSource::new(text(alloc, input)?, Vec::new(alloc), failing);
         let mut sink = MemSink::new(alloc, 1 << 30, Vec::new(alloc));
         let mut clock = MemClock::new(vec![in alloc; NOW]?);
-        let status = top_in_turns(alloc, &words, &mut source, &mut sink, &mut clock, &FreeGate);
+        let status = top_in_turns(
+            alloc,
+            &words,
+            &mut source,
+            &mut sink,
+            &mut clock,
+            &FreeGate,
+            RandomState::new(&rt)?,
+        );
         assert_eq!(rt; status, want, "at {input}");
         assert_eq!(rt; source.faults(), 0, "at {input}");
     }
@@ -96,7 +113,15 @@ fn a_read_offers_64_kib(rt: HostRuntime) -> Result<(), Fail> {
     let mut source = Ended { reads: 0, room: 0 };
     let mut sink = MemSink::new(alloc, 1 << 30, Vec::new(alloc));
     let mut clock = MemClock::new(Vec::new(alloc));
-    let status = top_in_turns(alloc, &words, &mut source, &mut sink, &mut clock, &FreeGate);
+    let status = top_in_turns(
+        alloc,
+        &words,
+        &mut source,
+        &mut sink,
+        &mut clock,
+        &FreeGate,
+        RandomState::new(&rt)?,
+    );
     assert_eq!(rt; status, Status::Ended);
     assert!(rt; source.reads == 1 && source.room == 65_536);
     Ok(())
@@ -111,7 +136,15 @@ fn a_failed_write_leaves_a_front(rt: HostRuntime) -> Result<(), Fail> {
         let mut source = MemSource::new(input, Vec::new(alloc), Vec::new(alloc));
         let mut sink = MemSink::new(alloc, 1, vec![in alloc; k as u64]?);
         let mut clock = MemClock::new(Vec::new(alloc));
-        let status = top_in_turns(alloc, &words, &mut source, &mut sink, &mut clock, &FreeGate);
+        let status = top_in_turns(
+            alloc,
+            &words,
+            &mut source,
+            &mut sink,
+            &mut clock,
+            &FreeGate,
+            RandomState::new(&rt)?,
+        );
         assert_eq!(rt; status, Status::WriteFault, "at write {k}");
         assert!(rt; sink.bytes() == &SAMPLE_SHOWN[..k], "at write {k}");
         assert_eq!(rt; sink.lacked(), 0);
@@ -129,7 +162,15 @@ fn run_limited(
     let mut source = MemSource::new(input, cuts, Vec::new(alloc));
     let mut sink = MemSink::new(alloc, 1 << 30, Vec::new(alloc));
     let mut clock = MemClock::new(vec![in alloc; NOW]?);
-    let end = answer_all(alloc, most, &mut source, &mut sink, &mut clock, &FreeGate);
+    let end = answer_all(
+        alloc,
+        most,
+        &mut source,
+        &mut sink,
+        &mut clock,
+        &FreeGate,
+        RandomState::new(&rt)?,
+    );
     Ok((Vec::from_slice(alloc, sink.bytes())?, end))
 }
 
@@ -176,7 +217,15 @@ fn other_words_are_bad(rt: HostRuntime) -> Result<(), Fail> {
         let mut source = MemSource::new(input, Vec::new(alloc), Vec::new(alloc));
         let mut sink = MemSink::new(alloc, 1, Vec::new(alloc));
         let mut clock = MemClock::new(Vec::new(alloc));
-        let status = top_in_turns(alloc, &words, &mut source, &mut sink, &mut clock, &FreeGate);
+        let status = top_in_turns(
+            alloc,
+            &words,
+            &mut source,
+            &mut sink,
+            &mut clock,
+            &FreeGate,
+            RandomState::new(&rt)?,
+        );
         assert_eq!(rt; status, Status::BadWords);
         assert!(rt; sink.bytes().is_empty());
         assert_eq!(rt; source.left().len(), SAMPLE.len());
@@ -198,7 +247,15 @@ fn commands_read_the_clock_and_operations_pass_the_gate(rt: HostRuntime) -> Resu
     let mut source = MemSource::new(input, Vec::new(alloc), Vec::new(alloc));
     let mut sink = MemSink::new(alloc, 1 << 30, Vec::new(alloc));
     let mut clock = MemClock::new(vec![in alloc; 10, 11, 12, 13, 14, 15, 16]?);
-    let status = top_in_turns(alloc, &words, &mut source, &mut sink, &mut clock, &gate);
+    let status = top_in_turns(
+        alloc,
+        &words,
+        &mut source,
+        &mut sink,
+        &mut clock,
+        &gate,
+        RandomState::new(&rt)?,
+    );
     assert_eq!(rt; status, Status::Ended);
     assert_eq!(rt; gate.passed(), 68);
     assert!(rt; gate.is_in_order());

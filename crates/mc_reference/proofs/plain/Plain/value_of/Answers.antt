@@ -1,20 +1,17 @@
-use Rattle.std.proofs.Common.{ap, sym, ◌∙◌, refl, option_map}
+use Rattle.std.proofs.Common.{ap, option_map, ◌∙◌}
 use Rattle.mc_model.specs.declared.item.Item.{Item}
-use Rattle.mc_model.proofs.ItemFacts.{kept}
-use Rattle.mc_shard.proofs.Tree.{get-live_map_of}
+use Rattle.mc_reference.specs.Found.{live_item}
+use Rattle.mc_reference.proofs.Found.{live_item-is}
 use Rattle.mc_reference.proofs.plain.Plain.value_of.Goals as goal
 
-pub returns-then-expired : goal.returns-then-expired
-returns-then-expired c =
+pub returns-in-Some : goal.returns-in-Some
+returns-in-Some c =
     let s = c.self.inside in
-    rw (← c.self.view_is) (sym (ap (option_map (λ (item : Item). item.value)) (get-live_map_of s.moment s.items.entries c.args.key.now ∙ ap (kept s.moment) (sym c.in-Some.ensures.value)) ∙ rw (← c.if-expired.ensures) refl))
-
-pub returns-else-expired : goal.returns-else-expired
-returns-else-expired c =
-    let s = c.self.inside in
-    rw (← c.self.view_is, c.get-else-expired.ensures) (sym (ap (option_map (λ (item : Item). item.value)) (get-live_map_of s.moment s.items.entries c.args.key.now ∙ ap (kept s.moment) (sym c.in-Some.ensures.value)) ∙ rw (← c.if-expired.ensures) refl))
+    rw (← c.self.view_is, c.get.ensures)
+    (ap (option_map (λ (item : Item). item.value)) (c.in-Some.ensures ∙ ap (live_item s.moment c.args.key.now) c.deref.ensures.value ∙ live_item-is s.moment c.args.key.now s.items.items))
 
 pub returns-in-None : goal.returns-in-None
 returns-in-None c =
     let s = c.self.inside in
-    rw (← c.self.view_is) (sym (ap (option_map (λ (item : Item). item.value)) (get-live_map_of s.moment s.items.entries c.args.key.now ∙ ap (kept s.moment) (sym c.in-None.ensures.value))))
+    rw (← c.self.view_is)
+    (ap (option_map (λ (item : Item). item.value)) (c.in-None.ensures ∙ ap (live_item s.moment c.args.key.now) c.deref.ensures.value ∙ live_item-is s.moment c.args.key.now s.items.items))

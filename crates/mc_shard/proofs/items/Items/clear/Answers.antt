@@ -1,8 +1,8 @@
-use Rattle.std.proofs.Common.{refl}
-use Rattle.mc_shard.specs.Kept.{without}
-use Rattle.mc_shard.proofs.Live.{live-empty}
+use Rattle.std.proofs.Common.{ap, ◌∙◌}
+use Rattle.mc_shard.proofs.Steps.{order_none}
 use Rattle.mc_shard.proofs.items.Items.clear.Goals as goal
 
 pub invariant_of-self : goal.invariant_of-self
-unfolding without
-invariant_of-self c = rw (c.clear.ensures.empty, c.clear-2.ensures.empty) (record { indexed = λ key. refl; tight = λ moment key has. absurd cc; settled = live-empty c.args.now })
+invariant_of-self c =
+    let o = c.self.invariant in
+    order_none _ _ _ c.args.now c.self.inside.bound (ap (λ l. l.entries) c.clear.ensures) c.clear-2.ensures.empty (ap (λ l. l.cap) c.clear.ensures ∙ o.unbounded) o.some o.most

@@ -1,8 +1,8 @@
-use Rattle.std.proofs.Common.{refl}
-use Rattle.mc_shard.specs.Kept.{without}
-use Rattle.mc_shard.proofs.Live.{live-empty}
+use Rattle.std.proofs.Common.{ap}
+use Rattle.mc_shard.proofs.Steps.{order_none}
 use Rattle.mc_shard.proofs.items.Items.new.Goals as goal
 
 pub invariant_of-result : goal.invariant_of-result
-unfolding without
-invariant_of-result c = rw (c.new.ensures.empty, c.new-2.ensures.empty) (record { indexed = λ key. refl; tight = λ moment key has. absurd cc; settled = live-empty 0 })
+invariant_of-result c =
+    let is = c.in_ok-unbounded_with_hasher.ensures in
+    order_none _ _ _ 0 c.args.bound (ap (λ l. l.entries) is) c.new.ensures.empty (ap (λ l. l.cap) is) c.requires.some c.requires.most

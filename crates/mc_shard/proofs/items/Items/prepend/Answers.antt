@@ -1,30 +1,22 @@
-use Rattle.std.proofs.Common.{ap, refl, ◌∙◌}
+use Rattle.std.proofs.Common.{refl, sym, subst, ◌∙◌}
 use Rattle.mc_shard.specs.Kept.{prepended}
-use Rattle.mc_shard.proofs.Tree.{on_err, same_items}
-use Rattle.mc_shard.proofs.Steps.{same_in_order, change_in_order, change_view, tells_kept, fits_change}
+use Rattle.mc_shard.proofs.Steps.{there, changed_is, order_changed, paired_changed, put_view}
 use Rattle.mc_shard.proofs.items.Items.prepend.Goals as goal
-
-pub invariant_of-self : goal.invariant_of-self
-invariant_of-self c =
-    let s = c.self.inside in
-    same_in_order s.moment s.map.entries c.prepend_at.new.items.entries s.index.keys s.index.keys s.late c.in_err-prepend_at.ensures.err refl c.self.invariant
-
-pub returns-in_err-prepend_at-clause-err : goal.returns-in_err-prepend_at-clause-err
-returns-in_err-prepend_at-clause-err c =
-    let s = c.self.inside in
-    on_err c.from_residual.result (ap (λ items. record { items = items; moment = s.moment; late = s.late }) (same_items s.map.entries c.prepend_at.new.items.entries c.in_err-prepend_at.ensures.err) ∙ c.self.view_is)
 
 pub invariant_of-self-2 : goal.invariant_of-self-2
 invariant_of-self-2 c =
     let s = c.self.inside in
-    let f = prepended c.get.result.now c.args.cas in
-    change_in_order f s.moment c.args.now s.map.entries c.prepend_at.new.items.entries s.index.keys s.index.keys s.late c.args.key.now
-    (rw (← c.self.view_is) at c.requires.moment) (λ v stays. stays) (rw (← c.self.view_is) at c.requires.there) c.in_ok-prepend_at.ensures.ok
-    (λ moment q apart has. has) (tells_kept f s.map.entries s.index.keys s.late c.args.key.now (λ v. refl) c.self.invariant.indexed) (fits_change f s.map.entries s.index.keys s.late c.args.key.now (λ v. refl) c.self.invariant.tight) c.self.invariant
+    let o = c.self.invariant in
+    let le = rw (← c.self.view_is) at c.requires.moment in
+    let t = there s.cache.entries s.cache.cap s.index.keys s.late s.moment s.bound o (prepended c.get.result.now c.args.cas) c.args.now c.args.key.now le (λ w h. h) (rw (← c.self.view_is) at c.requires.there) in
+    let is = changed_is s.cache.entries s.cache.cap s.index.keys s.late s.moment s.bound o (prepended c.get.result.now c.args.cas) c.args.now c.args.key.now le (λ w h. h) c.prepend.new.cache.entries t c.in_ok-prepend.ensures.put in
+    order_changed s.cache.entries s.cache.cap s.index.keys s.late s.moment s.bound o (prepended c.get.result.now c.args.cas) c.args.now c.args.key.now le (λ w h. h) c.prepend.new.cache.entries c.prepend.new.cache.cap s.index.keys t is c.prepend.ensures.cap (paired_changed s.cache.entries s.cache.cap s.index.keys s.late s.moment s.bound o (prepended c.get.result.now c.args.cas) c.args.now c.args.key.now le (λ w h. h) c.prepend.new.cache.entries t is refl)
 
 pub returns-clause-ok : goal.returns-clause-ok
 returns-clause-ok c =
     let s = c.self.inside in
-    let f = prepended c.get.result.now c.args.cas in
-    c.settle.ensures ∙ rw (← c.get.ensures, ← c.self.view_is) (change_view f s.moment c.args.now s.map.entries c.prepend_at.new.items.entries s.late s.late c.args.key.now
-    (λ v stays. stays) (rw (← c.self.view_is) at c.requires.there) c.in_ok-prepend_at.ensures.ok)
+    let o = c.self.invariant in
+    let le = rw (← c.self.view_is) at c.requires.moment in
+    let t = there s.cache.entries s.cache.cap s.index.keys s.late s.moment s.bound o (prepended c.get.result.now c.args.cas) c.args.now c.args.key.now le (λ w h. h) (rw (← c.self.view_is) at c.requires.there) in
+    let is = changed_is s.cache.entries s.cache.cap s.index.keys s.late s.moment s.bound o (prepended c.get.result.now c.args.cas) c.args.now c.args.key.now le (λ w h. h) c.prepend.new.cache.entries t c.in_ok-prepend.ensures.put in
+    c.settle.ensures ∙ rw (← c.self.view_is, ← c.get.ensures) (put_view s.cache.entries s.cache.cap s.index.keys s.late s.moment s.bound o (prepended c.get.result.now c.args.cas) c.args.now c.args.key.now le (λ w h. h) c.prepend.new.cache.entries t is)

@@ -1,20 +1,39 @@
-use Rattle.std.proofs.Common.{refl, ap, ◌∙◌}
-use Rattle.std.specs.FinMap.{remove}
-use Rattle.mc_item.specs.declared.expiry.Expiry.TheVariants.{Never}
-use Rattle.mc_shard.specs.Kept.{Kept}
-use Rattle.mc_shard.proofs.Steps.{remove_view, remove_in_order}
-use Rattle.mc_shard.proofs.Tight.{fits_due}
+use Rattle.std.proofs.Common.{ap, sym, is_some, not, refl, ◌∙◌}
+use Rattle.mc_shard.proofs.Steps.{order_without, without_view, seen_of, is_kept}
 use Rattle.mc_shard.proofs.items.Items.remove.Goals as goal
 
 pub invariant_of-self : goal.invariant_of-self
 invariant_of-self c =
     let s = c.self.inside in
-    remove_in_order s.moment s.map.entries c.take_out-old.new.items.entries s.index.keys c.unnote.new.index.keys s.late c.args.key
-    (ap (λ (k : Kept). k.late) (c.self.view_is ∙ c.settle.ensures)) c.take_out-old.ensures.loses c.unnote.ensures.others
-    (fits_due s.map.entries s.index.keys s.index.keys c.unnote.new.index.keys s.late c.args.key c.take_out-old.result Never c.take_out-old.ensures.was (λ moment q. refl) c.unnote.ensures.gone c.self.invariant.tight) c.self.invariant
+    let o = c.self.invariant in
+    order_without s.cache.entries s.cache.cap s.index.keys s.late s.moment s.bound o c.take-taken.new.cache.entries c.take-taken.new.cache.cap c.take-taken.new.index.keys c.args.key.now c.take-taken.ensures.entries c.take-taken.ensures.cap c.take-taken.ensures.paired
 
-pub returns : goal.returns
-returns c =
+pub returns-in-Some-clause-there : goal.returns-in-Some-clause-there
+returns-in-Some-clause-there c =
     let s = c.self.inside in
-    ap (λ items. record { items = items; moment = s.moment; late = s.late }) (remove_view s.map.entries c.take_out-old.new.items.entries c.args.key c.take_out-old.ensures.loses)
-    ∙ ap (λ (k : Kept). record { items = remove k.items c.args.key; moment = k.moment; late = k.late }) (c.self.view_is ∙ c.settle.ensures)
+    let o = c.self.invariant in
+    let le = rw (← c.self.view_is) at c.requires in
+    ap not c.expired.ensures ∙ is_kept c.in-Some.item c.args.now ∙ rw (← c.self.view_is) (ap (λ o. is_some o) (seen_of s.cache.entries s.cache.cap s.index.keys s.late s.moment s.bound c.args.now c.args.key.now _ o le c.in-Some.ensures.item))
+
+pub returns-in-Some-clause-gone : goal.returns-in-Some-clause-gone
+returns-in-Some-clause-gone c =
+    let s = c.self.inside in
+    let o = c.self.invariant in
+    let le = rw (← c.self.view_is) at c.requires in
+    let gone = c.settle.ensures ∙ without_view s.cache.entries s.cache.cap s.index.keys s.late s.moment s.bound o c.take-taken.new.cache.entries c.args.now c.args.key.now le c.take-taken.ensures.entries in
+    rw (← c.self.view_is) gone
+
+pub returns-in-None-clause-there : goal.returns-in-None-clause-there
+returns-in-None-clause-there c =
+    let s = c.self.inside in
+    let o = c.self.invariant in
+    let le = rw (← c.self.view_is) at c.requires in
+    rw (← c.self.view_is) (ap (λ o. is_some o) (seen_of s.cache.entries s.cache.cap s.index.keys s.late s.moment s.bound c.args.now c.args.key.now _ o le c.in-None.ensures.item))
+
+pub returns-in-None-clause-gone : goal.returns-in-None-clause-gone
+returns-in-None-clause-gone c =
+    let s = c.self.inside in
+    let o = c.self.invariant in
+    let le = rw (← c.self.view_is) at c.requires in
+    let gone = c.settle.ensures ∙ without_view s.cache.entries s.cache.cap s.index.keys s.late s.moment s.bound o c.take-taken.new.cache.entries c.args.now c.args.key.now le c.take-taken.ensures.entries in
+    rw (← c.self.view_is) gone

@@ -1,0 +1,16 @@
+use Rattle.std.proofs.lemmas.Result.{on_ok_weaker}
+use Rattle.mc_shard.specs.Kept.{prepended}
+use Rattle.mc_shard.proofs.Settled.{found_there, change_class}
+use Rattle.mc_shard.proofs.state.State.prepend.Goals as goal
+
+pub prepend-requires-clause-there : goal.prepend-requires-clause-there
+prepend-requires-clause-there c =
+    let i = c.self.inside in
+    found_there i.class i.items i.changes i.stored i.pending c.args.moment c.latest-now.result c.args.key.now
+    (rw (← c.self.view_is) at c.latest-now.ensures.is) (rw (← c.self.view_is) at c.requires)
+
+pub returns-clause-ok : goal.returns-clause-ok
+returns-clause-ok c =
+    let i = c.self.inside in
+    on_ok_weaker c.prepend.result (λ e. rw (← c.self.view_is) (change_class i.class i.items i.changes i.stored i.pending (prepended c.args.more.now c.args.cas) c.prepend.new.self c.args.moment c.latest-now.result c.args.key.now
+    (rw (← c.self.view_is) at c.latest-now.ensures.is) (rw (← c.self.view_is) at c.requires) e)) c.prepend.ensures.ok

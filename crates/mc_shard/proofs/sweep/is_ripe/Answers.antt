@@ -1,5 +1,0 @@
-use Rattle.mc_shard.proofs.sweep.is_ripe.Goals as goal
-use Rattle.mc_shard.proofs.Tree.{ahead_of}
-
-pub returns-in-Some-clause-ahead : goal.returns-in-Some-clause-ahead
-returns-in-Some-clause-ahead c = λ early. ahead_of c.args.now c.args.index.now.keys c.in-Some.field-0.now early c.in-Some.ensures.least
