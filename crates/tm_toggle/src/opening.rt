@@ -1,0 +1,121 @@
+//! How a table for many threads begins.
+ghost use Rattle.std.specs.Prelude.{◌≡◌, ◌+◌, ◌<◌, [], IfOk, replicate};
+ghost use Rattle.std.specs.Arc.{arc_value};
+ghost use Rattle.tm_model.specs.Opening.{IsBuildable, opening_of};
+ghost use Rattle.tm_toggle.specs.Ruled.{opening_by};
+ghost use Rattle.tm_toggle.specs.Shared.{IsSized};
+ghost use Rattle.tm_toggle.specs.Opened.{maker, IsFirstSide, IsOpened};
+ghost use Rattle.tm_toggle.specs.declared.view.Content.TheVariants.{Empty};
+
+use crate::fitting::Shareable;
+use crate::ruling::{Makes, Order, Settles};
+use crate::shared::SharedTable;
+use crate::sides::{Key, SharedClient, SharedTrustee};
+use crate::view::{Content, View};
+use atomic_table::{Seat, Table};
+use std::alloc::{AllocError, Global};
+use std::marker::Brand;
+use std::sync::Arc;
+use tm_ghost::{GhostList, Items};
+use tm_batch::{Config, First};
+
+impl<S: Shareable> SharedTable<S> {
+    /// The table of trustee `number`, one client's side for each of its `config.clients + number`
+    /// places in order, and the trustee's side.
+    pub fn new(
+        alloc: Global,
+        number: u32,
+        config: Config,
+        first: &Vec<First<S>>,
+    ) -> Result<(SharedTable<S>, Vec<SharedClient<S>>, SharedTrustee<S>), AllocError>
+        requires buildable { IsBuildable config first.now.items }
+        requires number { number < config.trustees }
+        ensures { IfOk result (λ r. IsOpened S.kind (opening_of number config first.now.items) r.0 r.1.items r.2) }
+    {
+        let places = config.clients + number;
+        let count = places as usize;
+        let key = Key {
+            number,
+            config,
+            first: told(first),
+        };
+        let words = Vec::from_elem(alloc, 0u64, 32 * count + 48)?;
+        let replied = Vec::from_elem(alloc, 0u64, count)?;
+        let slots = empties(alloc, count)?;
+        let Ok((table, mut seat)) = Table::new(alloc, words.as_slice(), slots, &key) else {
+            return Err(AllocError);
+        };
+        let mut clients = Vec::new(alloc);
+        for place in 0..places {
+            clients.push(add(&table, &mut seat, place))?;
+        }
+        let table = Arc::new(alloc, table)?;
+        Ok((
+            SharedTable { table },
+            clients,
+            SharedTrustee {
+                seat,
+                words: replied,
+            },
+        ))
+    }
+
+    /// The same table, for another thread.
+    pub fn share(&self) -> Result<SharedTable<S>, AllocError>
+        ensures { IfOk result (λ table. arc_value table.table ≡ arc_value self.now.table) }
+    {
+        Ok(SharedTable {
+            table: Arc::try_clone(&self.table)?,
+        })
+    }
+}
+
+/// Slots at first.
+fn empties<S: Shareable>(alloc: Global, count: usize) -> Result<Vec<Content<S>>, AllocError>
+    ensures { IfOk result (λ v. v.items ≡ replicate count Empty) }
+{
+    let mut slots = Vec::with_capacity(alloc, count)?;
+    for _ in 0..count {
+        slots.push_reserved(Content::Empty);
+    }
+    Ok(slots)
+}
+
+/// The client's side of the next place, which takes its slot.
+fn add<S: Shareable>(
+    table: &Table<Content<S>, View<S>, Key<S>, Order<S>, Global>,
+    seat: &mut Seat<Content<S>, View<S>>,
+    place: u32,
+) -> SharedClient<S>
+    requires table { seat.old.table_id ≡ table.now.shared.table_id }
+    requires sized { IsSized (opening_by table.now.shared.key) table.now.shared.table_id }
+    requires place { place < table.now.shared.table_id.slots }
+    requires seat { seat.old.me ≡ (maker table.now.shared.key place, []) }
+    ensures table { seat.new.table_id ≡ seat.old.table_id }
+    ensures seat { seat.new.me ≡ (maker table.now.shared.key (place + 1), []) }
+    ensures client { IsFirstSide table.now.shared.key table.now.shared.table_id place result }
+{
+    let mut client = table.shared.split_seat::<Makes>(seat);
+    table
+        .shared
+        .load::<Settles>(&mut client, 32 * (place as usize) + 16);
+    SharedClient {
+        seat: client,
+        place,
+        word: 0,
+        out: false,
+    }
+}
+
+/// The list of the build, for contracts alone.
+fn told<S: Shareable>(first: &Vec<First<S>>) -> GhostList<First<S>>
+    ensures { result.items ≡ first.now.items }
+{
+    pick::<S, Brand>(first)
+}
+
+fn pick<S: Shareable, E: Items<First<S>>>(_first: &Vec<First<S>>) -> GhostList<First<S>>
+    ensures { result.items ≡ E.items }
+{
+    GhostList::of::<E>()
+}
