@@ -1,5 +1,5 @@
 -- What each step tells: of the step, the seat before, the number found and the seat after.
-use Rattle.std.specs.Prelude.{◌≡◌, ◌≢◌, ℕ, ◌+◌, ◌<◌, Bool, true, false, not, List, [], ◌∷◌}
+use Rattle.std.specs.Prelude.{◌≡◌, ◌≢◌, ℕ, ◌+◌, ◌<◌, ◌⊎◌, Bool, true, false, not, List, [], ◌∷◌}
 use Rattle.atomic_table.specs.Table.{Me, Step, rest}
 use Rattle.tm_seq.specs.Kind.{Kind}
 use Rattle.tm_batch.specs.declared.batch.Batch.{Batch}
@@ -9,14 +9,14 @@ use Rattle.tm_model.specs.State.{State}
 use Rattle.tm_model.specs.Slots.{slot_of}
 use Rattle.tm_pair.specs.Calls.{Publishes, Collects, SeesNothing, Takes, HasAnswered}
 use Rattle.tm_pair.specs.Sides.{IsGoodClient, IsGoodTrustee}
-use Rattle.tm_pair.specs.Moves.{core_after}
+use Rattle.tm_pair.specs.Moves.{core_after, answer_of}
 use Rattle.tm_pair.specs.declared.moves.Move.{Move}
-use Rattle.tm_pair.specs.declared.moves.Move.TheVariants.{Open}
+use Rattle.tm_pair.specs.declared.moves.Move.TheVariants.{Open, Publish, See, Collect}
 use Rattle.tm_pair.specs.declared.table.Collected.{Collected}
 use Rattle.tm_pair.specs.declared.table.Collected.TheVariants.{Answers, Pending}
-use Rattle.tm_toggle.specs.Ruled.{told, r_of, s_of, bit, opening_in, client_in, trustee_in}
-use Rattle.tm_toggle.specs.declared.view.Content.{Content}
-use Rattle.tm_toggle.specs.declared.view.Content.TheVariants.{Empty, Asked, Answered}
+use Rattle.tm_toggle.specs.Contents.{batch_in, answers_in, HasNoRequests, HasNoAnswers, IsClear}
+use Rattle.tm_toggle.specs.Ruled.{listed, r_of, s_of, bit, opening_in, client_in, trustee_in, IsByClient, IsByTrustee, IsNext}
+use Rattle.tm_toggle.specs.declared.content.Content.{Content}
 use Rattle.tm_toggle.specs.declared.view.View.{View}
 use Rattle.tm_toggle.specs.declared.sides.Key.{Key}
 
@@ -34,11 +34,13 @@ module _ {V O R T : Type 0} where
     config = key.config;
     first = key.first;
     trustee = true;
+    note = false;
     place = 0;
     settled = false;
     up = 0;
     made = 0;
-    past = told (Open (key.config.clients + key.number) ∷ []);
+    past = listed (Open (key.config.clients + key.number) ∷ []);
+    noted = listed [];
   }
 
   -- the request word of place c, after some calls
@@ -52,61 +54,66 @@ module _ {V O R T : Type 0} where
 module _ {V O R T : Type 0} (kind : Kind V O R T) (opening : State V O R T) where
   pub record HasPublished (c : ℕ) (batch : Batch V O R T) (old new : List (Move V O R T)) : Type 0 where
     pub publishes : Publishes batch.requests.items batch.room (client_in c old) (client_in c new)
+    pub next : IsNext (IsByClient c) old new (Publish c batch)
     pub word : asks new c ≡ not (asks old c)
     pub good : IsGoodClient kind opening (client_in c new)
 
   pub record HasCollected (c : ℕ) (found : Collected V O R T) (old new : List (Move V O R T)) : Type 0 where
     pub collects : Collects (client_in c old) (client_in c new) found
+    pub next : IsNext (IsByClient c) old new (Collect c)
     pub word : asks new c ≡ asks old c
     pub good : IsGoodClient kind opening (client_in c new)
 
   pub record HasMissed (c : ℕ) (old new : List (Move V O R T)) : Type 0 where
     pub sees : SeesNothing c (trustee_in old) (trustee_in new)
+    pub next : IsNext IsByTrustee old new (See c)
     pub words : (d : ℕ) → replies new d ≡ replies old d
     pub good : IsGoodTrustee kind opening (trustee_in new)
 
   pub record HasTaken (c : ℕ) (batch : Batch V O R T) (old new : List (Move V O R T)) : Type 0 where
     pub takes : Takes kind opening c batch.requests.items batch.room (trustee_in old) (trustee_in new)
+    pub next : IsNext IsByTrustee old new (See c)
     pub words : (d : ℕ) → replies new d ≡ replies old d
     pub good : IsGoodTrustee kind opening (trustee_in new)
 
   pub record HasReplied (c : ℕ) (resumes : List (Entry V O R T)) (a : AnswerBatch V O R T) (old new : List (Move V O R T)) : Type 0 where
     pub answers : HasAnswered c resumes a (trustee_in old) (trustee_in new)
+    pub next : IsNext IsByTrustee old new (answer_of c resumes a)
     pub word : replies new c ≡ not (replies old c)
     pub words : (d : ℕ) → d ≢ c → replies new d ≡ replies old d
     pub good : IsGoodTrustee kind opening (trustee_in new)
 
 module _ {V O R T : Type 0} (kind : Kind V O R T) where
   abbrev pub publishes : PlayOf V O R T
-  publishes st m found n = (batch : Batch V O R T) → m.1 ≡ (m.0.place, Asked batch) ∷ []
-      → (past : List (Move V O R T)) × (n ≡ (record m.0 { past = told past }, [])) × HasPublished kind (opening_in m.0) m.0.place batch m.0.past.items past
+  publishes st m found n = (y : Content V O R T) → m.1 ≡ (m.0.place, y) ∷ []
+      → (past : List (Move V O R T)) × (n ≡ (record m.0 { past = listed past }, [])) × HasPublished kind (opening_in m.0) m.0.place (batch_in y) m.0.past.items past
 
   abbrev pub collects : PlayOf V O R T
   collects st m found n =
       (found ≡ bit (asks m.0.past.items m.0.place)
-      → (past : List (Move V O R T)) × (a : AnswerBatch V O R T) × (n ≡ (record m.0 { past = told past }, (m.0.place, Answered a) ∷ m.1))
-      × HasCollected kind (opening_in m.0) m.0.place (Answers a) m.0.past.items past)
+      → (past : List (Move V O R T)) × (y : Content V O R T) × (n ≡ (record m.0 { past = listed past }, (m.0.place, y) ∷ m.1)) × HasNoRequests y
+      × HasCollected kind (opening_in m.0) m.0.place (Answers (answers_in y)) m.0.past.items past)
       × (found ≢ bit (asks m.0.past.items m.0.place)
-      → (past : List (Move V O R T)) × (n ≡ (record m.0 { past = told past }, m.1)) × HasCollected kind (opening_in m.0) m.0.place Pending m.0.past.items past)
+      → (past : List (Move V O R T)) × (n ≡ (record m.0 { past = listed past }, m.1)) × HasCollected kind (opening_in m.0) m.0.place Pending m.0.past.items past)
 
   -- what a look of the trustee at place c tells
   abbrev pub SeesAt : ℕ → Sat V O R T → ℕ → Sat V O R T → Type 0
   SeesAt c m found n =
-      (found ≡ bit (replies m.0.past.items c) → (past : List (Move V O R T)) × (n ≡ (record m.0 { past = told past }, m.1)) × HasMissed kind (opening_in m.0) c m.0.past.items past)
+      (found ≡ bit (replies m.0.past.items c) → (past : List (Move V O R T)) × (n ≡ (record m.0 { past = listed past }, m.1)) × HasMissed kind (opening_in m.0) c m.0.past.items past)
       × (found ≢ bit (replies m.0.past.items c)
-      → (past : List (Move V O R T)) × (batch : Batch V O R T) × (n ≡ (record m.0 { past = told past; up = c + 1 }, (c, Asked batch) ∷ m.1))
-      × HasTaken kind (opening_in m.0) c batch m.0.past.items past)
+      → (past : List (Move V O R T)) × (y : Content V O R T) × (n ≡ (record m.0 { past = listed past; up = c + 1 }, (c, y) ∷ m.1)) × HasNoAnswers y
+      × HasTaken kind (opening_in m.0) c (batch_in y) m.0.past.items past)
 
   abbrev pub sees : PlayOf V O R T
   sees st m found n = (c : ℕ) → st.word ≡ r_of c → SeesAt c m found n
 
-  -- what an answer of place c by the answer batch a tells, after some resumes
-  abbrev pub AnswersAt : List (Entry V O R T) → ℕ → AnswerBatch V O R T → Sat V O R T → Sat V O R T → Type 0
-  AnswersAt resumes c a m n =
-      (past : List (Move V O R T)) × (n ≡ (record m.0 { past = told past; up = 0 }, [])) × HasReplied kind (opening_in m.0) c resumes a m.0.past.items past
+  -- what an answer of place c by what stands in its slot tells, after some resumes
+  abbrev pub AnswersAt : List (Entry V O R T) → ℕ → Content V O R T → Sat V O R T → Sat V O R T → Type 0
+  AnswersAt resumes c y m n =
+      (past : List (Move V O R T)) × (n ≡ (record m.0 { past = listed past; up = 0 }, [])) × HasReplied kind (opening_in m.0) c resumes (answers_in y) m.0.past.items past
 
   abbrev pub answers : List (Entry V O R T) → PlayOf V O R T
-  answers resumes st m found n = (c : ℕ) (a : AnswerBatch V O R T) → st.word ≡ s_of c → m.1 ≡ (c, Answered a) ∷ [] → AnswersAt resumes c a m n
+  answers resumes st m found n = (c : ℕ) (y : Content V O R T) → st.word ≡ s_of c → m.1 ≡ (c, y) ∷ [] → AnswersAt resumes c y m n
 
 module _ {V O R T : Type 0} where
   -- the trustee lays a slot back, and lifts it again
@@ -114,18 +121,18 @@ module _ {V O R T : Type 0} where
   lays st m found n = n ≡ (record m.0 { up = 0 }, rest m.1)
 
   abbrev pub lifts : PlayOf V O R T
-  lifts st m found n = (c : ℕ) → st.word ≡ s_of c → n ≡ (record m.0 { up = c + 1 }, (c, Empty) ∷ m.1)
+  lifts st m found n = (c : ℕ) → st.word ≡ s_of c → (y : Content V O R T) × (n ≡ (record m.0 { up = c + 1 }, (c, y) ∷ m.1)) × IsClear y
 
   -- a client's seat takes its slot
   abbrev pub settles : PlayOf V O R T
-  settles st m found n = n ≡ (record m.0 { settled = true }, (m.0.place, Empty) ∷ m.1)
+  settles st m found n = (y : Content V O R T) × (n ≡ (record m.0 { settled = true }, (m.0.place, y) ∷ m.1)) × IsClear y
 
   -- the trustee's view with one client more, and that client's
   abbrev pub with_client : View V O R T → View V O R T
   with_client v = record v { made = v.made + 1 }
 
   abbrev pub new_client : View V O R T → View V O R T
-  new_client v = record v { trustee = false; place = v.made; settled = false; up = 0; made = 0; past = told [] }
+  new_client v = record v { trustee = false; note = false; place = v.made; settled = false; up = 0; made = 0; past = listed []; noted = listed [] }
 
   -- the view of a client's seat at first
   abbrev pub client_first : Key V O R T → ℕ → View V O R T
@@ -134,9 +141,11 @@ module _ {V O R T : Type 0} where
     config = key.config;
     first = key.first;
     trustee = false;
+    note = false;
     place = c;
     settled = true;
     up = 0;
     made = 0;
-    past = told [];
+    past = listed [];
+    noted = listed [];
   }

@@ -1,19 +1,9 @@
-//! What stands in a slot, and what a seat knows.
+//! What a seat knows, for contracts alone.
 
+use tm_batch::{Config, First};
 use tm_ghost::GhostList;
-use tm_batch::{AnswerBatch, Batch, Config, First};
-use tm_pair::{Move, FitsBatches};
-
-/// What stands in a slot.
-#[derive(Drop)]
-pub enum Content<S: FitsBatches> {
-    /// Nothing.
-    Empty,
-    /// A batch that was published.
-    Asked(Batch<S>),
-    /// The answers to a batch.
-    Answered(AnswerBatch<S>),
-}
+use tm_model::Entry;
+use tm_pair::{FitsBatches, Move};
 
 /// What a seat knows. No program makes one.
 pub struct View<S: FitsBatches> {
@@ -25,6 +15,8 @@ pub struct View<S: FitsBatches> {
     pub first: GhostList<First<S>>,
     /// Whether it is the trustee's seat.
     pub trustee: bool,
+    /// Whether it is a note that one seat leaves another.
+    pub note: bool,
     /// The place of a client's seat.
     pub place: u32,
     /// Whether a client's seat took its slot.
@@ -33,6 +25,8 @@ pub struct View<S: FitsBatches> {
     pub up: u32,
     /// How many clients' seats the trustee made.
     pub made: u32,
-    /// The calls at the table, up to the last step of this seat.
+    /// The calls at the table, up to the last one of this seat.
     pub past: GhostList<Move<S>>,
+    /// The log that a note tells, or that the last note told that this seat took in.
+    pub noted: GhostList<Entry<S>>,
 }
