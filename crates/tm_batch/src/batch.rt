@@ -1,12 +1,15 @@
 //! A batch of requests.
 ghost use Rattle.std.specs.Prelude.{◌≡◌, ◌≤◌, ◌<◌, ◌↔◌, [], ◌∷◌, ◌++◌, length, IsOk, IsTrue, OnOk, OnErr, IfErr, MatchOption};
+ghost use Rattle.tm_batch.specs.declared.limits.TheConstants.{MOST_REQUESTS, MOST_ROOM};
 
+use crate::limits::MOST_REQUESTS;
 use crate::message::Request;
 use arrayvec::ArrayVec;
 use std::marker::Model;
 use tm_seq::Entrusted;
 
-/// How many gifts can come with answers, at most 16. Contracts see the number.
+/// How many gifts can come with answers, at most [`MOST_ROOM`](crate::MOST_ROOM). Contracts see the
+/// number.
 #[derive(Drop)]
 pub struct Room {
     gifts: u32,
@@ -14,18 +17,19 @@ pub struct Room {
 
 impl Model for Room {
     ghost use Rattle.std.specs.Prelude.{ℕ, ◌≤◌};
+    ghost use Rattle.tm_batch.specs.declared.limits.TheConstants.{MOST_ROOM};
 
     ghost Value = { ℕ };
 
     ghost view = { λ r. r.gifts };
 
-    ghost invariant = { λ r. r.gifts ≤ 16 };
+    ghost invariant = { λ r. r.gifts ≤ MOST_ROOM };
 }
 
 impl Room {
     /// Room for so many gifts.
     pub fn new(gifts: u32) -> Room
-        requires { gifts ≤ 16 }
+        requires { gifts ≤ MOST_ROOM }
         ensures { result ≡ gifts }
     {
         Room { gifts }
@@ -34,18 +38,18 @@ impl Room {
     /// For how many.
     pub fn gifts(&self) -> u32
         ensures value { result ≡ self.now }
-        ensures most { result ≤ 16 }
+        ensures most { result ≤ MOST_ROOM }
     {
         self.gifts
     }
 }
 
-/// At most 16 requests in order, with their room: how many gifts the sender can take with the
-/// answers.
+/// At most [`MOST_REQUESTS`] requests in order, with their room: how many gifts the sender can take
+/// with the answers.
 #[derive(Drop)]
 pub struct Batch<S: Entrusted> {
     /// The requests.
-    pub requests: ArrayVec<Request<S>, 16>,
+    pub requests: ArrayVec<Request<S>, MOST_REQUESTS>,
     /// The room.
     pub room: Room,
 }
@@ -53,7 +57,7 @@ pub struct Batch<S: Entrusted> {
 impl<S: Entrusted> Batch<S> {
     /// An empty batch.
     pub fn new(room: u32) -> Batch<S>
-        requires { room ≤ 16 }
+        requires { room ≤ MOST_ROOM }
         ensures requests { result.requests.items ≡ [] }
         ensures room { result.room ≡ room }
     {
@@ -63,11 +67,11 @@ impl<S: Entrusted> Batch<S> {
         }
     }
 
-    /// Appends a request, or hands it back where 16 are there.
+    /// Appends a request, or hands it back where [`MOST_REQUESTS`] are there.
     pub fn push(&mut self, request: Request<S>) -> Result<(), Request<S>>
-        ensures free { IsOk result ↔ (length self.old.requests.items < 16) }
+        ensures free { IsOk result ↔ (length self.old.requests.items < MOST_REQUESTS) }
         ensures ok { OnOk result (self.new.requests.items ≡ self.old.requests.items ++ request ∷ []) }
-        ensures full { OnErr result (length self.old.requests.items ≡ 16) }
+        ensures full { OnErr result (length self.old.requests.items ≡ MOST_REQUESTS) }
         ensures err { OnErr result (self.new ≡ self.old) }
         ensures back { IfErr result (λ r. r ≡ request) }
         ensures room { self.new.room ≡ self.old.room }
@@ -82,7 +86,7 @@ impl<S: Entrusted> Batch<S> {
     /// How many requests there are.
     pub fn len(&self) -> usize
         ensures value { result ≡ length self.now.requests.items }
-        ensures most { result ≤ 16 }
+        ensures most { result ≤ MOST_REQUESTS }
     {
         self.requests.len()
     }
@@ -97,7 +101,7 @@ impl<S: Entrusted> Batch<S> {
     /// How many gifts may come with the answers.
     pub fn room(&self) -> u32
         ensures value { result ≡ self.now.room }
-        ensures most { result ≤ 16 }
+        ensures most { result ≤ MOST_ROOM }
     {
         self.room.gifts()
     }

@@ -9,10 +9,11 @@ mod config;
 mod fits;
 mod limits;
 mod message;
+mod slots;
 
 pub use batch::{Batch, Room};
 pub use config::{Config, First, Holders};
-pub use fits::FitsAnswers;
+pub use fits::{Fits, FitsAnswers, FitsBeside};
 pub use limits::{
     FEWEST_TRUSTEES, MOST_CLIENTS, MOST_COMPLETIONS, MOST_GIFTS, MOST_HOLDS, MOST_OBJECTS,
     MOST_REQUESTS, MOST_ROOM, MOST_TRUSTEES, MOST_TRUSTS, WINDOW,

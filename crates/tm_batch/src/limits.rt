@@ -6,6 +6,9 @@ pub const MOST_REQUESTS: usize = 16;
 /// How many gifts leave with the answers to a batch at most.
 pub const MOST_ROOM: u32 = 16;
 
+/// The same number, for what holds such gifts.
+pub(crate) const MOST_LEAVING: usize = MOST_ROOM as usize;
+
 /// How many completions leave with the answers to a batch at most.
 pub const MOST_COMPLETIONS: usize = 16;
 

@@ -3,6 +3,7 @@ ghost use Rattle.std.specs.Prelude.{◌≡◌, []};
 ghost use Rattle.tm_batch.specs.declared.message.Request.TheVariants.{Bye};
 ghost use Rattle.tm_batch.specs.declared.message.Answer.TheVariants.{ByeDone};
 
+use crate::limits::{MOST_COMPLETIONS, MOST_LEAVING, MOST_REQUESTS};
 use arrayvec::ArrayVec;
 use tm_seq::Entrusted;
 
@@ -88,11 +89,11 @@ pub struct AnswerBatch<S: Entrusted> {
     /// greater.
     pub front: u64,
     /// One answer for each request, in order.
-    pub answers: ArrayVec<Answer<S>, 16>,
+    pub answers: ArrayVec<Answer<S>, MOST_REQUESTS>,
     /// The gifts that waited longest, as many as the batch had room for.
-    pub gifts: ArrayVec<Name, 16>,
+    pub gifts: ArrayVec<Name, MOST_LEAVING>,
     /// The completions that waited longest.
-    pub completions: ArrayVec<Completion<S>, 16>,
+    pub completions: ArrayVec<Completion<S>, MOST_COMPLETIONS>,
 }
 
 impl<S: Entrusted> AnswerBatch<S> {

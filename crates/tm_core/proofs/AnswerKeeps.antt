@@ -67,13 +67,16 @@ module _ {Q G E : Type 0} (mark : E → Mark Q) (out : ℕ → List E → List G
   late_more (Taken b room) slot d log es not late = tt
   late_more (Answered a upto room) slot d log es not late = last_behind_more slot.floor d log es not late
 
+  -- a log that grows by entries that are not of a place ran the same for it
+  pub ran_more : (log es : List E) (c : ℕ) → AreNotOf mark c es → ran_by mark c (log ++ es) ≡ ran_by mark c log
+  ran_more log es c not = ran-append mark c log es ∙ ap (λ l. ran_by mark c log ++ l) (ran_none mark c es not) ∙ append-nil _
+
   -- a place stays good where the log grows by entries that are not its own
   others_good :
       (log es : List E) (d : ℕ) (slot : Slot Q G E) → AreNotOf mark d es → out d (log ++ es) ≡ out d log
       → IsGood log d slot → IsGood (log ++ es) d slot
   others_good log es d slot not same was =
-      let ran_is : ran_by mark d (log ++ es) ≡ ran_by mark d log =
-      ran-append mark d log es ∙ ap (λ l. ran_by mark d log ++ l) (ran_none mark d es not) ∙ append-nil _ in
+      let ran_is : ran_by mark d (log ++ es) ≡ ran_by mark d log = ran_more log es d not in
       let longer : length log ≤ length (log ++ es) = prefix_length log (log ++ es) (es, refl) in
       let low : slot.floor ≤ length log = was.floor in
       record {
@@ -155,6 +158,8 @@ module _ {Q G E : Type 0} (mark : E → Mark Q) (out : ℕ → List E → List G
         let low : slot.floor ≤ length log = was.floor in
         let (rest, begins) = was.seen.prefix in
         let (more, own, is, none, is_batch) = adds.grows in
+        let before : ran_by mark c (slot.seen ++ (rest ++ more)) ≡ ran_by mark c log =
+        ap (ran_by mark c) (sym (append_assoc slot.seen rest more) ∙ ap (λ l. l ++ more) (sym begins)) ∙ ran_more log more c (none_not_of mark c more none) in
         record {
           agrees = (equal_not slot.request_word slot.response_word agrees.0, sent_is);
           reached = out_is;
@@ -170,7 +175,7 @@ module _ {Q G E : Type 0} (mark : E → Mark Q) (out : ℕ → List E → List G
             is_legal = adds.is_legal;
             runs = sent_is;
             leaves = out_is;
-            grown = (rest ++ more, own, b, joined slot.seen rest more own begins is, is_batch, seen);
+            grown = (rest ++ more, own, b, joined slot.seen rest more own begins is, is_batch, agrees.1 ∙ ap (λ l. l ++ b) (sym before));
           };
           floor = omega arith;
           late = last_is_new slot.floor c log es low was.settled added_left;

@@ -11,17 +11,17 @@ use Rattle.tm_model.specs.State.{State, place_of, holds_at}
 use Rattle.tm_model.specs.Serve.{state_after}
 use Rattle.tm_model.specs.Legal.{IsLegal}
 use Rattle.tm_model.specs.Slots.{Empty, Asked, Taken, Answered, no_slot, slot_of, answered as after_answer}
-use Rattle.tm_model.specs.GoodSlots.{Agrees, Reached, HasSeen, IsSettled, IsGoodSlot}
+use Rattle.tm_model.specs.GoodSlots.{Agrees, Reached, IsSettled, IsGoodSlot}
 use Rattle.tm_model.specs.Ran.{mark_of, ran, waiting_after}
 use Rattle.tm_model.specs.Batches.{batches}
 use Rattle.tm_model.specs.Holds.{has_bye, launches_in, gave, gifts_of, answers_in, ended_in, came, unfinished}
 use Rattle.tm_model.specs.Good.{FullBox, FullSlot, FullCore, unserved, got_with, IsOutInOrder, IsAccounted, IsGood}
 use Rattle.tm_model.specs.Entries.{entries_by, batch_entries, added}
 use Rattle.tm_model.specs.Answering.{MayAnswerWith, answer_with}
-use Rattle.tm_core.proofs.Joins.{growing_adds, growing_few}
+use Rattle.tm_core.proofs.Joins.{growing_adds, growing_few, resumes_are_none}
 use Rattle.tm_core.proofs.Lists.{front_empty}
-use Rattle.tm_core.proofs.AnswerKeeps.{added_not_of, answer_keeps}
-use Rattle.tm_core.proofs.Marks.{ran-append, ran_none}
+use Rattle.tm_core.proofs.AnswerKeeps.{added_not_of, answer_keeps, ran_more}
+use Rattle.tm_core.proofs.Marks.{ran-append, ran_none, none_not_of}
 use Rattle.tm_core.proofs.AllAnswers.{batches_have_all_answers}
 use Rattle.tm_core.proofs.Tallies.{came_same, gave-append, launches_in-append, bye_more}
 
@@ -112,14 +112,24 @@ module _ {V O R T : Type 0} where
       abbrev es : List (Entry V O R T)
       es = added core.log resumes c b room a.answers.items
 
+      -- the log before the batch, from a seen log on, and what it ran
+      front_is : (seen rest : List (Entry V O R T)) → core.log ≡ seen ++ rest → core.log ++ resumes ≡ seen ++ (rest ++ resumes)
+      front_is seen rest begins = ap (λ l. l ++ resumes) begins ∙ append_assoc seen rest resumes
+
+      front_ran : (seen rest : List (Entry V O R T)) → core.log ≡ seen ++ rest → ran c (seen ++ (rest ++ resumes)) ≡ ran c core.log
+      front_ran seen rest begins =
+          ap (λ l. ran c l) (sym (front_is seen rest begins))
+          ∙ ran_more mark_of (batches kind opening) (IsLegal kind opening) core.log resumes c
+          (none_not_of mark_of c resumes (resumes_are_none resumes may.grows.only))
+
       upto_is :
-          (seen rest : List (Entry V O R T)) → core.log ≡ seen ++ rest → length (ran c core.log) ≡ length (ran c seen)
-          → core.log ++ es ≡ seen ++ (rest ++ resumes) ++ batch_entries seen c b room a.answers.items
-      upto_is seen rest begins same =
+          (seen rest : List (Entry V O R T)) → core.log ≡ seen ++ rest
+          → core.log ++ es ≡ seen ++ (rest ++ resumes) ++ batch_entries (seen ++ (rest ++ resumes)) c b room a.answers.items
+      upto_is seen rest begins =
           let own = batch_entries core.log c b room a.answers.items in
-          let at : own ≡ batch_entries seen c b room a.answers.items = ap (λ k. entries_by c k b a.answers.items ++ Sent c room ∷ []) same in
-          ap (λ l. l ++ es) begins ∙ append_assoc seen rest es ∙ ap (λ l. seen ++ l) (sym (append_assoc rest resumes own))
-          ∙ sym (append_assoc seen (rest ++ resumes) own) ∙ ap (λ l. seen ++ (rest ++ resumes) ++ l) at
+          let at : own ≡ batch_entries (seen ++ (rest ++ resumes)) c b room a.answers.items =
+          ap (λ l. entries_by c (length l) b a.answers.items ++ Sent c room ∷ []) (sym (front_ran seen rest begins)) in
+          sym (append_assoc core.log resumes own) ∙ ap (λ l. l ++ own) (front_is seen rest begins) ∙ ap (λ l. seen ++ (rest ++ resumes) ++ l) at
 
       kept_own : IsKept opening c (after_answer a (core.log ++ es) room (slot_of core c)) (core.log ++ es)
       kept_own =
@@ -130,13 +140,9 @@ module _ {V O R T : Type 0} where
           subst (λ (x : FullBox V O R T). IsOutInOrder opening c x slot core.log) may.is_taken was.out in
           let agrees : Agrees mark_of (batches kind opening) (IsLegal kind opening) (Taken b room) slot c core.log =
           subst (λ (x : FullBox V O R T). Agrees mark_of (batches kind opening) (IsLegal kind opening) x slot c core.log) may.is_taken place.agrees in
-          let seen : HasSeen mark_of (batches kind opening) (IsLegal kind opening) (Taken b room) slot c =
-          subst (λ (x : FullBox V O R T). HasSeen mark_of (batches kind opening) (IsLegal kind opening) x slot c) may.is_taken place.seen.runs in
           let (rest, begins) = place.seen.prefix in
           let few = growing_few kind opening core.log resumes c b room a may.grows in
-          let one = length-append (ran c core.log) b in
-          let two = length-append (ran c slot.seen) b in
-          let both = ap length (sym agrees.1 ∙ seen) in
+          let sent = agrees.1 ∙ ap (λ l. l ++ b) (sym (front_ran slot.seen rest begins)) in
           record {
             enough = was.enough;
             window = was.window;
@@ -146,7 +152,7 @@ module _ {V O R T : Type 0} where
               most_gifts = out.2;
               gifts = few.0;
               completions = few.1;
-              answers = (b, rest ++ resumes, seen, out.1, may.grows.as_many, upto_is slot.seen rest begins (omega (arith, one, two, both)));
+              answers = (b, rest ++ resumes, sent, out.1, may.grows.as_many, upto_is slot.seen rest begins);
             };
           }
 

@@ -43,14 +43,14 @@ module _ {V O R T : Type 0} where
   got_with (Answered a upto room) got = got ++ a ∷ []
 
   -- answers in a slot: as many as the batch had requests, no more gifts than its room, and at most 16 completions; the log up to them
-  -- goes on from the seen log, and ends with the entries of the batch
+  -- goes on from the seen log by others, and ends with the entries of the batch, numbered from all that stands before them
   pub record IsAnswer (c : ℕ) (slot : FullSlot V O R T) (a : AnswerBatch V O R T) (upto : List (Entry V O R T)) (room : ℕ) : Type 0 where
     pub most_gifts : room ≤ 16
     pub gifts : length a.gifts.items ≤ room
     pub completions : length a.completions.items ≤ 16
     pub answers : (b : List (Request V O R T)) × (others : List (Entry V O R T))
-        × (slot.sent ≡ ran c slot.seen ++ b) × (length b ≤ 16) × (length a.answers.items ≡ length b)
-        × (upto ≡ slot.seen ++ others ++ batch_entries slot.seen c b room a.answers.items)
+        × (slot.sent ≡ ran c (slot.seen ++ others) ++ b) × (length b ≤ 16) × (length a.answers.items ≡ length b)
+        × (upto ≡ slot.seen ++ others ++ batch_entries (slot.seen ++ others) c b room a.answers.items)
 
   -- a batch that is out was orderly, and answers that stand there are those of such a batch
   abbrev pub IsOutInOrder : State V O R T → ℕ → FullBox V O R T → FullSlot V O R T → List (Entry V O R T) → Type 0

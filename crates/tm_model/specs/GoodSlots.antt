@@ -106,7 +106,7 @@ module _ {Q G E : Type 0} (mark : E → Mark Q) (out : ℕ → List E → List G
     pub runs : slot.sent ≡ ran_by mark c upto
     pub leaves : out c upto ≡ slot.got ++ a ∷ []
     pub grown : (others own : List E) × (b : List Q) × (upto ≡ slot.seen ++ others ++ own) × IsBatchOf mark c b room own
-        × (slot.sent ≡ ran_by mark c slot.seen ++ b)
+        × (slot.sent ≡ ran_by mark c (slot.seen ++ others) ++ b)
 
   abbrev pub Shows : Box Q G E → Slot Q G E → ℕ → List E → Type 0
   Shows (Answered a upto room) slot c log = IsUpTo log c slot a upto room

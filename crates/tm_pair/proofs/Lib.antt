@@ -1,6 +1,10 @@
+pub mod Calling
 pub mod Handing
+pub mod Keeping
 pub mod Nothing
 mod Opening
+mod Owing
 mod Returning
-mod Stepping
+pub mod Standing
+pub mod Stepping
 mod Tabling

@@ -6,20 +6,22 @@ use Rattle.std.proofs.lemmas.Bool.{cases_eq}
 use Rattle.tm_seq.specs.Kind.{Kind}
 use Rattle.tm_model.specs.Opening.{IsBuildable}
 use Rattle.tm_model.specs.Slots.{no_slot, slot_of, first_core}
-use Rattle.tm_model.specs.Good.{FullCore}
-use Rattle.tm_model.specs.Laws.{IsOpening}
+use Rattle.tm_model.specs.Laws.{IsOpening, first_of}
 use Rattle.tm_core.proofs.First.{first_is_good}
-use Rattle.tm_pair.specs.Stands.{client_of, trustee_of}
+use Rattle.tm_pair.specs.SideViews.{client_of, trustee_of}
 use Rattle.tm_pair.specs.Moves.{core_after}
 use Rattle.tm_pair.specs.Places.{IsNewPlace}
 use Rattle.tm_pair.specs.Shown.{ShowsCore}
-use Rattle.tm_pair.specs.Plain.{opening_at, core_at, IsTable}
-use Rattle.tm_pair.specs.Opened.{AreNewPlaces, IsNewClient, AreNewClients, IsOpened}
+use Rattle.tm_pair.specs.Plain.{opening_at, core_at, IsTable, plain_theory}
+use Rattle.tm_pair.specs.Theory.{IsNewTable}
+use Rattle.tm_pair.specs.Opened.{AreNewPlaces, IsNewClient, AreNewClients}
 use Rattle.tm_pair.specs.declared.moves.Move.TheVariants.{Open}
 use Rattle.tm_pair.specs.declared.place.Place.{Place}
 use Rattle.tm_pair.specs.declared.plain.PlainTable.{PlainTable}
 use Rattle.tm_pair.specs.declared.plain.PlainClient.{PlainClient}
 use Rattle.tm_pair.specs.declared.plain.PlainTrustee.{PlainTrustee}
+use Rattle.tm_pair.proofs.Calling.{first_client, first_trustee}
+use Rattle.tm_pair.proofs.Owing.{is_client, is_trustee}
 
 module _ {V O R T : Type 0} where
   pub no_places : (places : List (Place V O R T)) → places ≡ [] → AreNewPlaces places
@@ -68,9 +70,6 @@ module _ {V O R T : Type 0} where
         (record { request_word = own.request_word; response_word = own.response_word; box = rw own.content tt });
   }
 
-  first_slot : (core : FullCore V O R T) (places c : ℕ) → core ≡ first_core places → c < places → slot_of core c ≡ no_slot
-  first_slot core places c e lt = rw e (get_or-replicate places c no_slot no_slot lt)
-
   module _ (kind : Kind V O R T) (table : PlainTable V O R T) where
     is_table :
         IsBuildable table.config table.first.items → table.number < table.config.trustees → table.past.items ≡ Open (table.config.clients + table.number) ∷ []
@@ -90,29 +89,29 @@ module _ {V O R T : Type 0} where
         → table.number < table.config.trustees → table.past.items ≡ Open (table.config.clients + table.number) ∷ []
         → length table.places.items ≡ table.config.clients + table.number → AreNewPlaces table.places.items
         → length clients ≡ table.config.clients + table.number → AreNewClients (table.config.clients + table.number) clients
-        → trustee.past.items ≡ Open (table.config.clients + table.number) ∷ [] → IsOpened kind (opening_at table) table clients trustee
+        → trustee.past.items ≡ Open (table.config.clients + table.number) ∷ []
+        → IsNewTable (plain_theory kind) (opening_at table) table clients trustee × (core_at table ≡ first_of (opening_at table))
     unfolding AreNewClients
     opened clients trustee buildable number past count new many sides own =
+        let places = table.config.clients + table.number in
         let is = is_table buildable number past count new in
-        let core : core_at table ≡ first_core (table.config.clients + table.number) = ap (λ l. core_after l) past in
-        let its : core_after trustee.past.items ≡ first_core (table.config.clients + table.number) = ap (λ l. core_after l) own in
-        record {
-          opens = refl;
-          core = core;
-          count = many;
-          clients_are = λ c side lt at.
-              let has = sides c side lt at in
-              let within : c < table.config.clients + table.number = subst (λ n. c < n) many lt in
-              let knows : core_after side.past.items ≡ first_core (table.config.clients + table.number) = ap (λ l. core_after l) has.past in
-              record {
-                mine = record {
-                  of_table = is;
-                  in_range = subst (λ k. k < table.config.clients + table.number) (sym has.place) within;
-                  view = ap (λ k. client_of side.place (slot_of k side.place)) (knows ∙ sym core);
+        let core : core_at table ≡ first_core places = ap (λ l. core_after l) past in
+        let its : core_after trustee.past.items ≡ first_core places = ap (λ l. core_after l) own in (
+          record {
+            opens = refl;
+            count = many;
+            clients_are = λ c side lt at.
+                let has = sides c side lt at in
+                let within : c < places = subst (λ n. c < n) many lt in
+                let knows : core_after side.past.items ≡ first_core places = ap (λ l. core_after l) has.past in
+                record {
+                  mine = is_client kind table is side (subst (λ k. k < places) (sym has.place) within)
+                      (ap (λ k. client_of side.place (slot_of k side.place)) (knows ∙ sym core));
+                  view = ap (λ k. client_of k (slot_of (core_after side.past.items) k)) has.place
+                      ∙ ap (λ k. client_of c (slot_of k c)) knows ∙ first_client places c within;
                 };
-                view = ap (λ k. client_of k (slot_of (core_after side.past.items) k)) has.place
-                    ∙ ap (λ s. client_of c s) (first_slot (core_after side.past.items) (table.config.clients + table.number) c knows within);
-              };
-          mine = record { of_table = is; view = ap (λ k. trustee_of k) (its ∙ sym core) };
-          view = ap (λ k. trustee_of k) its;
-        }
+            mine = is_trustee kind table is trustee (ap (λ k. trustee_of k) (its ∙ sym core));
+            view = ap (λ k. trustee_of k) its ∙ first_trustee places;
+          },
+          core,
+        )

@@ -17,7 +17,7 @@ use Rattle.tm_core.proofs.Marks.{ran-append}
 use Rattle.tm_core.proofs.Numbering.{opening_place}
 use Rattle.tm_core.proofs.Ordered.{opening_ordered}
 use Rattle.tm_core.proofs.Tallies.{ended_in-append}
-use Rattle.tm_pair.specs.Views.{ClientView}
+use Rattle.tm_pair.specs.Views.{BatchView, ClientView}
 use Rattle.tm_pair.specs.Calls.{Publishes, Gets, Collects}
 use Rattle.tm_pair.specs.Sides.{HasRun, IsGoodClient}
 use Rattle.tm_pair.specs.Rounds.{GetsNothing, FindsNothing}
@@ -48,14 +48,14 @@ module _ {V O R T : Type 0} (kind : Kind V O R T) (opening : State V O R T) wher
       let got = ap (λ l. ended_in l) good.leaves in
       omega (arith, flow, nothing, not_ready, sent, got)
 
-  -- nothing was asked, so the batch that was out is empty
+  -- the batch that is out is the one that asked nothing
   nothing_was_out :
-      (old mid : ClientView V O R T) (b : List (Request V O R T)) → IsGoodClient kind opening old → old.out ≡ None → Publishes [] 0 old mid
-      → mid.sent ≡ ran mid.place mid.seen ++ b → b ≡ []
-  nothing_was_out old mid b good free asks batch =
-      let sent : old.sent ≡ ran mid.place mid.seen ++ b = sym (append-nil old.sent) ∙ sym asks.sent ∙ batch in
-      let same : ran mid.place mid.seen ≡ old.sent = ap (λ c. ran c mid.seen) asks.place ∙ ap (λ l. ran old.place l) asks.seen ∙ sym (all_ran old good free) in
-      same_join (ran mid.place mid.seen) b (same ∙ sent)
+      (old mid : ClientView V O R T) (b : List (Request V O R T)) (room : ℕ) → Publishes [] 0 old mid
+      → mid.out ≡ Some (record { requests = b; room = room }) → (b ≡ []) × (room ≡ 0)
+  nothing_was_out old mid b room asks out =
+      let some : Some (record { requests = b; room = room }) ≡ Some (record { requests = []; room = 0 }) = sym out ∙ asks.out in
+      let same : record { requests = b; room = room } ≡ record { requests = []; room = 0 } = cc in
+      (ap (λ (v : BatchView V O R T). v.requests) same, ap (λ (v : BatchView V O R T). v.room) same)
 
   -- the log that a side has seen grew by entries of which none is a request of it
   others_ran_none :
@@ -74,8 +74,7 @@ module _ {V O R T : Type 0} (kind : Kind V O R T) (opening : State V O R T) wher
       → Publishes [] 0 old mid → Gets a mid new → GetsNothing a old new
   gets_nothing old mid new a good after free asks gets =
       let (b, room, are) = gets.answers in
-      let rooms : room ≡ 0 = let e : Some room ≡ Some 0 = sym are.out ∙ asks.out in cc in
-      let empty = nothing_was_out old mid b good free asks are.batch in
+      let (empty, rooms) = nothing_was_out old mid b room asks are.out in
       let few : length b ≡ 0 = ap (λ l. length l) empty in
       let count = are.answers in
       let most = are.gifts in
@@ -84,7 +83,7 @@ module _ {V O R T : Type 0} (kind : Kind V O R T) (opening : State V O R T) wher
       let got : new.got ≡ old.got ++ a ∷ [] = gets.got ∙ ap (λ l. l ++ a ∷ []) asks.got in
       let (others, grown) = are.seen in
       let seen : new.seen ≡ old.seen ++ others ++ Sent old.place 0 ∷ [] =
-      grown ∙ ap (λ q. mid.seen ++ others ++ batch_entries mid.seen mid.place q room a.answers.items) empty
+      grown ∙ ap (λ q. mid.seen ++ others ++ batch_entries (mid.seen ++ others) mid.place q room a.answers.items) empty
       ∙ ap (λ l. l ++ others ++ Sent mid.place room ∷ []) asks.seen ∙ ap (λ c. old.seen ++ others ++ Sent c room ∷ []) asks.place
       ∙ ap (λ r. old.seen ++ others ++ Sent old.place r ∷ []) rooms in
       record {
@@ -107,9 +106,9 @@ module _ {V O R T : Type 0} (kind : Kind V O R T) (opening : State V O R T) wher
   pub finds_nothing :
       (old mid new : ClientView V O R T) (found : Collected V O R T) → IsGoodClient kind opening old → IsGoodClient kind opening new
       → old.out ≡ None → Publishes [] 0 old mid → Collects mid new found → FindsNothing old new found
-  finds_nothing old mid new Idle good after free asks finds = let was : mid.out ≡ None = finds.out in let is : mid.out ≡ Some 0 = asks.out in absurd cc
+  finds_nothing old mid new Idle good after free asks finds = let was : mid.out ≡ None = finds.out in let is : mid.out ≡ Some (record { requests = []; room = 0 }) = asks.out in absurd cc
   finds_nothing old mid new Pending good after free asks finds =
-      let (room, was, is) = finds.out in record {
+      let (batch, was, is) = finds.out in record {
         place = finds.place ∙ asks.place;
         sent = finds.sent ∙ asks.sent ∙ append-nil old.sent;
         got = finds.got ∙ asks.got;

@@ -1,9 +1,7 @@
 -- A table after a call: what it stands for, and that its places show it.
-use Rattle.std.proofs.Common.{◌≡◌, ◌≢◌, ℕ, ◌<◌, not, List, [], ◌∷◌, ◌++◌, length, slice_index_or, slice_set, inl, inr, refl, sym, ◌∙◌, ap, subst, arith, get_or-set_same, get_or-set_other, length-set}
-use Rattle.std.specs.Prelude.{IfSome, IsSomeAnd}
+use Rattle.std.proofs.Common.{◌≡◌, ◌≢◌, ℕ, ◌<◌, not, List, ◌++◌, length, slice_index_or, slice_set, inl, inr, refl, sym, ◌∙◌, ap, subst, arith, get_or-set_same, get_or-set_other, length-set}
 use Rattle.std.specs.Vec.{with_item}
 use Rattle.std.specs.declared.option.Option.{Option}
-use Rattle.std.specs.declared.option.Option.TheVariants.{None, Some}
 use Rattle.std.proofs.lemmas.Bool.{cases_eq}
 use Rattle.tm_ghost.specs.declared.list.GhostList.{GhostList}
 use Rattle.tm_seq.specs.Kind.{Kind}
@@ -11,46 +9,24 @@ use Rattle.tm_batch.specs.declared.batch.Batch.{Batch}
 use Rattle.tm_batch.specs.declared.message.Request.{Request}
 use Rattle.tm_batch.specs.declared.message.AnswerBatch.{AnswerBatch}
 use Rattle.tm_model.specs.declared.entry.Entry.{Entry}
-use Rattle.tm_model.specs.State.{State, place_count}
-use Rattle.tm_model.specs.Slots.{Empty, Asked, Taken, Answered, no_slot, slot_of, first_core, publish, published, see, taken, collect, collected, looked, is_answered, answered}
+use Rattle.tm_model.specs.State.{place_count}
+use Rattle.tm_model.specs.Slots.{Empty, Asked, Taken, Answered, no_slot, slot_of, publish, published, see, taken, collect, collected, looked, is_answered, answered}
 use Rattle.tm_model.specs.Good.{FullBox, FullSlot, FullCore, IsGood}
 use Rattle.tm_model.specs.Entries.{added}
-use Rattle.tm_model.specs.Answering.{MayGrow, answer_with}
-use Rattle.tm_pair.specs.Views.{Hand, TrusteeView, hand_of}
-use Rattle.tm_pair.specs.Stands.{room_out, hand_in, trustee_of}
-use Rattle.tm_pair.specs.Standing.{is_in_hand, hand_at, hand_in_range}
-use Rattle.tm_pair.specs.Calls.{OnLook}
-use Rattle.tm_pair.specs.Moves.{answer_taken, after_move, after_moves, core_after}
+use Rattle.tm_model.specs.Answering.{answer_with}
+use Rattle.tm_pair.specs.Moves.{core_after, FindsAsked}
 use Rattle.tm_pair.specs.Places.{KeepsWords, Gave, Found}
 use Rattle.tm_pair.specs.Shown.{ShowsBox, ShowsSlot, ShowsCore}
-use Rattle.tm_pair.specs.Plain.{opening_at, core_at, IsTable, CollectsExactly}
+use Rattle.tm_pair.specs.Plain.{opening_at, core_at, IsTable}
 use Rattle.tm_pair.specs.declared.table.Collected.{Collected}
 use Rattle.tm_pair.specs.declared.moves.Move.{Move}
 use Rattle.tm_pair.specs.declared.place.Content.{Content}
 use Rattle.tm_pair.specs.declared.place.Content.TheVariants.{Empty as Free, Asked as Out, Taken as InHand, Answered as Back}
 use Rattle.tm_pair.specs.declared.place.Place.{Place}
 use Rattle.tm_pair.specs.declared.plain.PlainTable.{PlainTable}
-use Rattle.tm_pair.proofs.Stepping.{looked_at, seen_slot}
-
-found : {X : Type 0} (o : Option X) (P : X → Type 0) → IsSomeAnd o P → (x : X) × (o ≡ Some x) × P x
-found None P h = absurd h
-found (Some x) P h = (x, refl, h)
+use Rattle.tm_pair.proofs.Stepping.{looked_at, seen_slot, IsLook}
 
 module _ {V O R T : Type 0} where
-  after-append : (xs ys : List (Move V O R T)) (core : FullCore V O R T) → after_moves (xs ++ ys) core ≡ after_moves ys (after_moves xs core)
-  after-append [] ys core = refl
-  after-append (x ∷ xs) ys core = after-append xs ys (after_move x core)
-
-  -- one call more
-  pub core_next : (past items : List (Move V O R T)) (move : Move V O R T) → items ≡ past ++ move ∷ [] → core_after items ≡ after_move move (core_after past)
-  core_next past items move e = ap (λ l. core_after l) e ∙ after-append past (move ∷ []) (first_core 0)
-
-  -- an answer of a batch that is taken
-  pub answer_is :
-      (box : FullBox V O R T) (c : ℕ) (b : List (Request V O R T)) (room : ℕ) (resumes : List (Entry V O R T)) (a : AnswerBatch V O R T) (core : FullCore V O R T)
-      → box ≡ Taken b room → answer_taken box c resumes a core ≡ answer_with c b room resumes a core
-  answer_is box c b room resumes a core e = ap (λ (x : FullBox V O R T). answer_taken x c resumes a core) e
-
   -- one place and one slot change
   shows_set :
       (places : List (Place V O R T)) (i : ℕ) (new : Place V O R T) (core : FullCore V O R T) (log : List (Entry V O R T)) (slot : FullSlot V O R T)
@@ -133,17 +109,6 @@ module _ {V O R T : Type 0} where
         shows_set places i new core log (answered a log room (slot_of core i)) lt shown
         (record { request_word = request ∙ slot_shown.request_word; response_word = response ∙ ap not slot_shown.response_word; box = rw content refl })
 
-  -- what was given was asked
-  pub gave_asked :
-      (content now : Content V O R T) (given : Option (Batch V O R T)) (box : FullBox V O R T) → ShowsBox content box → Gave content now given
-      → IfSome given (λ b. box ≡ Asked b.requests.items b.room)
-  gave_asked Free now given Empty shows gave = rw gave.1 tt
-  gave_asked (Out b) now given (Asked requests room) shows gave =
-      rw gave.1 (ap (λ q. Asked q room) (sym shows.0) ∙ ap (λ r. Asked b.requests.items r) (sym shows.1))
-  gave_asked InHand now given (Taken requests room) shows gave = rw gave.1 tt
-  gave_asked (Back a) now given (Answered answers upto room) shows gave = rw gave.1 tt
-  gave_asked _ now given _ shows gave = absurd shows
-
   -- a slot is free where its place is
   pub free_is_empty : (content : Content V O R T) (box : FullBox V O R T) → ShowsBox content box → content ≡ Free → box ≡ Empty
   free_is_empty Free Empty shows e = refl
@@ -167,49 +132,27 @@ module _ {V O R T : Type 0} where
   taken_in_hand (Back a) (Answered answers upto r) b room shows e = absurd cc
   taken_in_hand _ _ b room shows e = absurd shows
 
-  -- nothing of a place is out exactly where its slot is empty
-  pub nothing_out : (box : FullBox V O R T) → room_out box ≡ None → box ≡ Empty
-  nothing_out Empty e = refl
-  nothing_out (Asked b room) e = absurd cc
-  nothing_out (Taken b room) e = absurd cc
-  nothing_out (Answered a upto room) e = absurd cc
+  -- a look of the trustee finds what was asked
+  pub gave_finds :
+      (content now : Content V O R T) (given : Option (Batch V O R T)) (box : FullBox V O R T) → ShowsBox content box → Gave content now given
+      → FindsAsked given box
+  gave_finds Free now given Empty shows gave = rw gave.1 refl
+  gave_finds (Out b) now given (Asked requests room) shows gave =
+      rw gave.1 (ap (λ q. Asked q room) (sym shows.0) ∙ ap (λ r. Asked b.requests.items r) (sym shows.1))
+  gave_finds InHand now given (Taken requests room) shows gave = rw gave.1 refl
+  gave_finds (Back a) now given (Answered answers upto room) shows gave = rw gave.1 refl
+  gave_finds _ now given _ shows gave = absurd shows
 
-  -- a look at a slot that is not free is one of the step
-  pub collects_exactly :
-      (c : ℕ) (content now : Content V O R T) (found : Collected V O R T) (core after : FullCore V O R T) → content ≢ Free → Found content now found
-      → after ≡ collect c core → CollectsExactly c core after found
-  collects_exactly c Free now found core after ne finds e = absurd (ne refl)
-  collects_exactly c (Out b) now found core after ne finds e = rw finds.1 e
-  collects_exactly c InHand now found core after ne finds e = rw finds.1 e
-  collects_exactly c (Back a) now found core after ne finds e = rw finds.1 e
-
-  -- a look at a slot that is not free is a look
-  pub looked_on :
-      (content now : Content V O R T) (found : Collected V O R T) (idle looked : Type 0) → content ≢ Free → Found content now found → looked
-      → OnLook found idle looked
-  looked_on Free now found idle looked ne finds e = absurd (ne refl)
-  looked_on (Out b) now found idle looked ne finds e = rw finds.1 e
-  looked_on InHand now found idle looked ne finds e = rw finds.1 e
-  looked_on (Back a) now found idle looked ne finds e = rw finds.1 e
-
-  -- the batch that the trustee may answer
-  pub may_be_answered :
-      (kind : Kind V O R T) (opening : State V O R T) (core : FullCore V O R T) (view : TrusteeView V O R T) (c : ℕ) (resumes : List (Entry V O R T))
-      (a : AnswerBatch V O R T) → view ≡ trustee_of core
-      → IsSomeAnd (hand_of view c) (λ hand. MayGrow kind opening view.log resumes c hand.requests hand.room a)
-      → (hand : Hand V O R T) × (hand_of view c ≡ Some hand) × (hand_of (trustee_of core) c ≡ Some hand) × (c < length core.slots)
-      × ((slot_of core c).box ≡ Taken hand.requests hand.room) × MayGrow kind opening core.log resumes c hand.requests hand.room a
-  may_be_answered kind opening core view c resumes a e may =
-      let (hand, is, grows) = found (hand_of view c) (λ hand. MayGrow kind opening view.log resumes c hand.requests hand.room a) may in
-      let there : hand_of (trustee_of core) c ≡ Some hand = ap (λ (v : TrusteeView V O R T). hand_of v c) (sym e) ∙ is in
-      let boxed : hand_in (slot_of core c).box ≡ Some hand = sym (hand_at core c) ∙ there in (
-        hand,
-        is,
-        there,
-        hand_in_range core c hand boxed,
-        is_in_hand (slot_of core c).box hand boxed,
-        subst (λ (v : TrusteeView V O R T). MayGrow kind opening v.log resumes c hand.requests hand.room a) e grows,
-      )
+  -- a look of a client at a place that is not free finds the answers that are back
+  pub found_looks :
+      (content now : Content V O R T) (found : Collected V O R T) (box : FullBox V O R T) → content ≢ Free → ShowsBox content box → Found content now found
+      → IsLook found box
+  found_looks Free now found Empty ne shows finds = absurd (ne refl)
+  found_looks (Out b) now found (Asked requests room) ne shows finds = rw finds.1 (λ e. absurd cc, λ e. absurd cc, refl)
+  found_looks InHand now found (Taken requests room) ne shows finds = rw finds.1 (λ e. absurd cc, λ e. absurd cc, refl)
+  found_looks (Back a) now found (Answered answers upto room) ne shows finds =
+      rw finds.1 (λ e. absurd cc, λ e. absurd cc, (upto, room, ap (λ x. Answered x upto room) (sym shows)))
+  found_looks _ now found _ ne shows finds = absurd shows
 
   module _ (kind : Kind V O R T) (table : PlainTable V O R T) (of : IsTable kind table) where
     -- places of a table

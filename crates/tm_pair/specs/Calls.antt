@@ -2,17 +2,18 @@
 use Rattle.std.specs.Prelude.{◌≡◌, ℕ, ◌≤◌, Bool, true, false, List, [], ◌∷◌, ◌++◌, length, slice_set, IsSomeAnd}
 use Rattle.std.specs.declared.option.Option.TheVariants.{None, Some}
 use Rattle.tm_seq.specs.Kind.{Kind}
+use Rattle.std.specs.declared.option.Option.{Option}
+use Rattle.tm_batch.specs.declared.limits.TheConstants.{MOST_COMPLETIONS}
 use Rattle.tm_batch.specs.declared.message.Request.{Request}
 use Rattle.tm_batch.specs.declared.message.AnswerBatch.{AnswerBatch}
 use Rattle.tm_model.specs.declared.entry.Entry.{Entry}
 use Rattle.tm_model.specs.State.{State}
 use Rattle.tm_model.specs.Slots.{looked}
-use Rattle.tm_model.specs.Ran.{ran}
 use Rattle.tm_model.specs.Entries.{batch_entries, added}
 use Rattle.tm_model.specs.Orderly.{IsOrderly}
 use Rattle.tm_model.specs.Answering.{MayGrow}
 use Rattle.tm_model.specs.Laws.{IsPromised}
-use Rattle.tm_pair.specs.Views.{ClientView, TrusteeView, hand_of, looks_at}
+use Rattle.tm_pair.specs.Views.{BatchView, ClientView, TrusteeView, hand_of, looks_at}
 use Rattle.tm_pair.specs.declared.table.Collected.{Collected}
 use Rattle.tm_pair.specs.declared.table.Collected.TheVariants.{Answers, Pending, Idle}
 
@@ -24,9 +25,9 @@ module _ {V O R T : Type 0} where
   -- a side published the batch b
   pub record Publishes (b : List (Request V O R T)) (room : ℕ) (old new : ClientView V O R T) : Type 0 where
     pub place : new.place ≡ old.place
-    -- its sent list grew by the batch, which is out with its room
+    -- its sent list grew by the batch, which is out
     pub sent : new.sent ≡ old.sent ++ b
-    pub out : new.out ≡ Some room
+    pub out : new.out ≡ Some (record { requests = b; room = room })
     pub got : new.got ≡ old.got
     pub seen : new.seen ≡ old.seen
     pub looks : new.looks ≡ old.looks
@@ -40,22 +41,21 @@ module _ {V O R T : Type 0} where
   pub record IsPending (old new : ClientView V O R T) : Type 0 where
     pub place : new.place ≡ old.place
     pub sent : new.sent ≡ old.sent
-    pub out : (room : ℕ) × (old.out ≡ Some room) × (new.out ≡ Some room)
+    pub out : (batch : BatchView V O R T) × (old.out ≡ Some batch) × (new.out ≡ Some batch)
     pub got : new.got ≡ old.got
     pub seen : new.seen ≡ old.seen
     pub looks : new.looks ≡ looked false old.looks
 
-  -- the answers a came to the batch b of a side, and the log that it has seen grew by entries of others and then by those of b
+  -- the answers a came to the batch b of a side, and the log that it has seen grew by other entries and then by those of b
   pub record AreAnswers (b : List (Request V O R T)) (room : ℕ) (a : AnswerBatch V O R T) (old new : ClientView V O R T) : Type 0 where
     -- b is the batch that was out
-    pub out : old.out ≡ Some room
-    pub batch : old.sent ≡ ran old.place old.seen ++ b
-    -- there are as many answers as requests, at most as many gifts as the batch had room for, and at most 16 completions
+    pub out : old.out ≡ Some (record { requests = b; room = room })
+    -- there are as many answers as requests, and at most as many gifts as the batch had room for
     pub answers : length a.answers.items ≡ length b
     pub gifts : length a.gifts.items ≤ room
-    pub completions : length a.completions.items ≤ 16
+    pub completions : length a.completions.items ≤ MOST_COMPLETIONS
     pub seen : (others : List (Entry V O R T))
-        × (new.seen ≡ old.seen ++ others ++ batch_entries old.seen old.place b room a.answers.items)
+        × (new.seen ≡ old.seen ++ others ++ batch_entries (old.seen ++ others) old.place b room a.answers.items)
 
   -- a side looked, found the answers a and took them
   pub record Gets (a : AnswerBatch V O R T) (old new : ClientView V O R T) : Type 0 where
@@ -72,11 +72,11 @@ module _ {V O R T : Type 0} where
   Collects old new Pending = IsPending old new
   Collects old new (Answers a) = Gets a old new
 
-  -- the first of two where a side did not look, the second where it did
-  abbrev pub OnLook : Collected V O R T → Type 0 → Type 0 → Type 0
+  -- `idle` where a side did not look; `looked` of the answers that it found, or of none, where it did
+  abbrev pub OnLook : Collected V O R T → Type 0 → (Option (AnswerBatch V O R T) → Type 0) → Type 0
   OnLook Idle idle looked = idle
-  OnLook Pending idle looked = looked
-  OnLook (Answers a) idle looked = looked
+  OnLook Pending idle looked = looked None
+  OnLook (Answers a) idle looked = looked (Some a)
 
   -- the trustee looked once at place c
   abbrev pub LooksAt : ℕ → Bool → TrusteeView V O R T → TrusteeView V O R T → Type 0
@@ -94,7 +94,7 @@ module _ {V O R T : Type 0} where
     pub log : new.log ≡ old.log
     pub hands : new.hands ≡ slice_set old.hands c (Some (record { requests = b; room = room }))
     pub looks : LooksAt c true old new
-    pub told : IsPromised kind opening old.log c b
+    pub promised : IsPromised kind opening old.log c b
 
   -- the batch of place c is in hand, and the log may grow by some resumes and by it, answered by a
   abbrev pub MayAnswer : Kind V O R T → State V O R T → ℕ → List (Entry V O R T) → AnswerBatch V O R T → TrusteeView V O R T → Type 0

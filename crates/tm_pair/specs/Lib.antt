@@ -5,7 +5,7 @@ pub mod Places
 pub mod Plain
 pub mod Rounds
 pub mod Shown
+pub mod SideViews
 pub mod Sides
-pub mod Standing
-pub mod Stands
+pub mod Theory
 pub mod Views

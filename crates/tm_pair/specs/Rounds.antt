@@ -2,6 +2,7 @@
 use Rattle.std.specs.Prelude.{◌≡◌, ◌≢◌, ℕ, ◌≤◌, true, false, List, [], ◌∷◌, ◌++◌}
 use Rattle.std.specs.declared.option.Option.{Option}
 use Rattle.std.specs.declared.option.Option.TheVariants.{None, Some}
+use Rattle.tm_batch.specs.declared.limits.TheConstants.{MOST_ROOM}
 use Rattle.tm_batch.specs.declared.batch.Batch.{Batch}
 use Rattle.tm_batch.specs.declared.message.AnswerBatch.{AnswerBatch}
 use Rattle.tm_model.specs.declared.entry.Entry.{Entry}
@@ -23,7 +24,7 @@ module _ {V O R T : Type 0} where
 
   -- a batch of place c that asked nothing and had so much room was answered; the others in hand stay
   pub record AnswersNothing (c room : ℕ) (old new : TrusteeView V O R T) : Type 0 where
-    pub most : room ≤ 16
+    pub most : room ≤ MOST_ROOM
     pub log : new.log ≡ old.log ++ Sent c room ∷ []
     pub hand : hand_of new c ≡ None
     pub others : (d : ℕ) → d ≢ c → hand_of new d ≡ hand_of old d
@@ -43,7 +44,7 @@ module _ {V O R T : Type 0} where
     pub sent : new.sent ≡ old.sent
     pub got : new.got ≡ old.got
     pub seen : new.seen ≡ old.seen
-    pub out : new.out ≡ Some 0
+    pub out : new.out ≡ Some (record { requests = []; room = 0 })
     pub looks : new.looks ≡ looked false old.looks
 
   -- a side asked nothing, and a is what it got

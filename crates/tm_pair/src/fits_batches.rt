@@ -1,6 +1,5 @@
 //! Kinds whose batches of requests fit in memory.
 ghost use Rattle.std.specs.Mem.{FitsInMemory};
-ghost use Rattle.std.proofs.Common.{lit<};
 ghost use denote.Builtin.{unit};
 ghost use Rattle.std.specs.contracts.option.Option.{the_row as option_row};
 ghost use Rattle.std.specs.contracts.result.Result.{the_row as result_row};
@@ -8,8 +7,7 @@ ghost use Rattle.tm_batch.specs.contracts.batch.Batch.{the_row as batch_row};
 ghost use Rattle.tm_pair.specs.contracts.table.Held.{the_row as held_row};
 ghost use Rattle.tm_pair.specs.contracts.table.Collected.{the_row as collected_row};
 
-use tm_batch::FitsAnswers;
-use tm_seq::Counter;
+use tm_batch::{Fits, FitsAnswers};
 
 /// A kind whose batches, of requests and of answers, fit in memory, and so does what the calls of a
 /// table give of them. All code that passes them on asks for it.
@@ -27,12 +25,12 @@ pub trait FitsBatches: FitsAnswers {
     ghost fits_found: { FitsInMemory (collected_row Self.row Self.Op.row Self.Reply.row Self.Task.row) };
 }
 
-impl FitsBatches for Counter {
-    ghost fits_batch = { lit< tt };
+impl<S: Fits> FitsBatches for S {
+    ghost fits_batch = { S.fits_batch };
 
-    ghost fits_held = { lit< tt };
+    ghost fits_held = { S.fits_held };
 
-    ghost fits_seen = { lit< tt };
+    ghost fits_seen = { S.fits_seen };
 
-    ghost fits_found = { lit< tt };
+    ghost fits_found = { S.fits_found };
 }

@@ -1,11 +1,10 @@
 //! Kinds whose places fit in memory.
 ghost use Rattle.std.specs.Mem.{FitsInMemory};
-ghost use Rattle.std.proofs.Common.{lit<};
 ghost use Rattle.tm_pair.specs.contracts.place.Place.{the_row as place_row};
 ghost use Rattle.tm_pair.specs.contracts.moves.Move.{the_row as move_row};
 
 use crate::fits_batches::FitsBatches;
-use tm_seq::Counter;
+use tm_batch::Fits;
 
 /// A kind of which a table in one thread can be made.
 pub trait FitsTable: FitsBatches {
@@ -16,8 +15,8 @@ pub trait FitsTable: FitsBatches {
     ghost fits_move: { FitsInMemory (move_row Self.row Self.Op.row Self.Reply.row Self.Task.row) };
 }
 
-impl FitsTable for Counter {
-    ghost fits_place = { lit< tt };
+impl<S: Fits> FitsTable for S {
+    ghost fits_place = { S.fits_place };
 
-    ghost fits_move = { lit< tt };
+    ghost fits_move = { S.fits_move };
 }

@@ -1,9 +1,10 @@
 //! What was done at a table in one thread, for contracts alone.
 ghost use Rattle.std.specs.Prelude.{◌≡◌, ◌≤◌, List, [], ◌∷◌, ◌++◌, length};
-ghost use Rattle.tm_pair.specs.declared.moves.Move.TheVariants.{Open, Publish, See, Answer, Collect};
-ghost use Rattle.tm_pair.specs.Moves.{answer_of};
+ghost use Rattle.tm_batch.specs.declared.limits.TheConstants.{MOST_REQUESTS, MOST_ROOM};
+ghost use Rattle.tm_pair.specs.declared.moves.Move.TheVariants.{Open, Publish, See, Collect};
+ghost use Rattle.tm_pair.specs.Moves.{answer_of, answers_found};
 
-use crate::table::Since;
+use crate::table::{Collected, Since};
 use std::marker::Brand;
 use tm_batch::{AnswerBatch, Batch};
 use tm_ghost::{GhostList, Items};
@@ -17,18 +18,18 @@ pub enum Move<S: Entrusted> {
     Open(u32),
     /// A place published a batch.
     Publish(u32, Batch<S>),
-    /// The trustee looked at a place.
-    See(u32),
+    /// The trustee looked at a place, and found a batch or none.
+    See(u32, Option<Batch<S>>),
     /// The trustee answered a place, after some resumes.
     Answer(u32, GhostList<Entry<S>>, AnswerBatch<S>),
-    /// A place looked for answers.
-    Collect(u32),
+    /// A place looked for answers, and found some or none.
+    Collect(u32, Option<AnswerBatch<S>>),
 }
 
-/// A batch has at most 16 requests, and room for at most 16 gifts.
+/// A batch has at most `MOST_REQUESTS` requests, and room for at most `MOST_ROOM` gifts.
 pub(crate) fn is_bounded<S: Entrusted>(batch: &Batch<S>)
-    ensures requests { length batch.now.requests.items ≤ 16 }
-    ensures room { batch.now.room ≤ 16 }
+    ensures requests { length batch.now.requests.items ≤ MOST_REQUESTS }
+    ensures room { batch.now.room ≤ MOST_ROOM }
 {
     let _ = (batch.len(), batch.room());
 }
@@ -80,23 +81,42 @@ fn pick_publish<S: Entrusted, E: Items<Move<S>>>(
     GhostList::of::<E>()
 }
 
-/// Then the trustee looked at a place.
-pub(crate) fn seen<S: Entrusted>(past: &GhostList<Move<S>>, place: u32) -> GhostList<Move<S>>
-    ensures { result.items ≡ past.now.items ++ See place ∷ [] }
+/// Then the trustee looked at a place, and found a batch or none.
+pub(crate) fn seen<S: Entrusted>(
+    past: &GhostList<Move<S>>,
+    place: u32,
+    found: &Option<Batch<S>>,
+) -> GhostList<Move<S>>
+    ensures { result.items ≡ past.now.items ++ See place found.now ∷ [] }
 {
-    pick_place::<S, Brand>(past, place)
+    pick_see::<S, Brand>(past, place, found)
 }
 
-/// Then a place looked for answers.
-pub(crate) fn collected<S: Entrusted>(past: &GhostList<Move<S>>, place: u32) -> GhostList<Move<S>>
-    ensures { result.items ≡ past.now.items ++ Collect place ∷ [] }
-{
-    pick_place::<S, Brand>(past, place)
-}
-
-fn pick_place<S: Entrusted, E: Items<Move<S>>>(
+fn pick_see<S: Entrusted, E: Items<Move<S>>>(
     _past: &GhostList<Move<S>>,
     _place: u32,
+    _found: &Option<Batch<S>>,
+) -> GhostList<Move<S>>
+    ensures { result.items ≡ E.items }
+{
+    GhostList::of::<E>()
+}
+
+/// Then a place looked for answers, and found some or none.
+pub(crate) fn collected<S: Entrusted>(
+    past: &GhostList<Move<S>>,
+    place: u32,
+    found: &Collected<S>,
+) -> GhostList<Move<S>>
+    ensures { result.items ≡ past.now.items ++ Collect place (answers_found found.now) ∷ [] }
+{
+    pick_collect::<S, Brand>(past, place, found)
+}
+
+fn pick_collect<S: Entrusted, E: Items<Move<S>>>(
+    _past: &GhostList<Move<S>>,
+    _place: u32,
+    _found: &Collected<S>,
 ) -> GhostList<Move<S>>
     ensures { result.items ≡ E.items }
 {

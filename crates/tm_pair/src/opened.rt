@@ -1,7 +1,10 @@
 //! How a table in one thread begins.
 ghost use Rattle.std.specs.Prelude.{◌≡◌, ◌<◌, ◌≤◌, vec_len, IfOk};
 ghost use Rattle.tm_model.specs.Opening.{IsBuildable, opening_of};
-ghost use Rattle.tm_pair.specs.Opened.{AreNewPlaces, AreNewClients, IsOpened};
+ghost use Rattle.tm_model.specs.Laws.{first_of};
+ghost use Rattle.tm_pair.specs.Theory.{IsNewTable};
+ghost use Rattle.tm_pair.specs.Plain.{core_at, plain_theory};
+ghost use Rattle.tm_pair.specs.Opened.{AreNewPlaces, AreNewClients};
 
 use crate::fits_table::FitsTable;
 use crate::moves::opened;
@@ -16,7 +19,8 @@ impl<S: FitsTable> PlainTable<S> {
     /// The table of trustee `number` of a runtime that is built from a config and a list of
     /// objects, one client's side for each of its `config.clients + number` places in order, and
     /// the trustee's side. The config and the list must be as a runtime may be built from them. A
-    /// place has room for one batch of 16 requests or of 16 answers, 16 gifts and 16 completions.
+    /// place has room for one batch of `MOST_REQUESTS` requests, or of as many answers, `MOST_ROOM` gifts and
+    /// `MOST_COMPLETIONS` completions.
     /// Nothing allocates afterwards. An error is want of memory.
     pub fn new(
         alloc: Global,
@@ -26,7 +30,8 @@ impl<S: FitsTable> PlainTable<S> {
     ) -> Result<(PlainTable<S>, Vec<PlainClient<S>>, PlainTrustee<S>), AllocError>
         requires buildable { IsBuildable config first.now.items }
         requires number { number < config.trustees }
-        ensures { IfOk result (λ r. IsOpened S.kind (opening_of number config first.now.items) r.0 r.1.items r.2) }
+        ensures new { IfOk result (λ r. IsNewTable (plain_theory S.kind) (opening_of number config first.now.items) r.0 r.1.items r.2) }
+        ensures core { IfOk result (λ r. core_at r.0 ≡ first_of (opening_of number config first.now.items)) }
     {
         let count = config.clients + number;
         let places = new_places(alloc, count)?;

@@ -1,17 +1,14 @@
 //! A table whose sides are all in one thread.
-ghost use Rattle.std.specs.Prelude.{◌≡◌, ◌≢◌, ◌<◌, MatchOption, IsOk, OnOk, OnErr, IfErr, IfSome, IsSomeAnd, ◌↔◌};
+ghost use Rattle.std.specs.Prelude.{◌≡◌, ◌<◌, MatchOption, IsOk, OnOk, OnErr, IfErr, ◌↔◌};
 ghost use Rattle.std.specs.declared.option.Option.TheVariants.{None};
-ghost use Rattle.tm_model.specs.State.{State, place_count};
-ghost use Rattle.tm_model.specs.Slots.{Asked, slot_of, publish as published_at, see as seen_at};
-ghost use Rattle.tm_model.specs.Answering.{answer_with};
-ghost use Rattle.tm_pair.specs.Views.{ClientView, TrusteeView, hand_of};
+ghost use Rattle.tm_model.specs.State.{place_count};
+ghost use Rattle.tm_pair.specs.Views.{hand_of};
 ghost use Rattle.tm_pair.specs.Calls.{MaySend, Publishes, Collects, OnLook, SeesNothing, Takes, MayAnswer, HasAnswered};
 ghost use Rattle.tm_pair.specs.Moves.{answer_of};
+ghost use Rattle.tm_pair.specs.Theory.{KeepsSides, KeepsClients};
 ghost use Rattle.tm_pair.specs.declared.moves.Move.TheVariants.{Publish, See, Collect};
-ghost use Rattle.tm_pair.specs.Plain.{opening_at, core_at, client_at, trustee_at, IsClientOf, IsTrusteeOf, HasMoved, CollectsExactly};
-ghost use Rattle.tm_pair.specs.declared.plain.PlainClient.{PlainClient};
-ghost use Rattle.tm_pair.specs.declared.plain.PlainTrustee.{PlainTrustee};
-ghost use Rattle.tm_pair.specs.Standing.{client_side_good, trustee_side_good};
+ghost use Rattle.tm_pair.specs.Plain.{opening_at, client_at, trustee_at, IsClientOf, IsTrusteeOf, HasDone, plain_theory};
+ghost use Rattle.tm_pair.specs.Plain.{plain_laws};
 
 use crate::fits_table::FitsTable;
 use crate::moves::{Move, again, answered, collected, is_bounded, published, seen};
@@ -64,17 +61,7 @@ impl<S: FitsTable> PairTable<S> for PlainTable<S> {
 
     type TrusteeSide = PlainTrustee<S>;
 
-    ghost opening = { λ table. opening_at table };
-
-    ghost client_view = { λ side. client_at side };
-
-    ghost trustee_view = { λ side. trustee_at side };
-
-    ghost HasClient = { λ table side. IsClientOf S.kind table side };
-
-    ghost HasTrustee = { λ table side. IsTrusteeOf S.kind table side };
-
-    ghost Moved = { λ move old new. HasMoved move old new };
+    ghost theory = { plain_theory S.kind };
 
     /// The words, boxes, floors and looks are exactly those of the step, or as before with `Held`.
     fn publish(&mut self, side: &mut PlainClient<S>, batch: Batch<S>) -> Result<(), Held<S>>
@@ -84,13 +71,9 @@ impl<S: FitsTable> PairTable<S> for PlainTable<S> {
         ensures ok { OnOk result (Publishes batch.requests.items batch.room (client_at side.old) (client_at side.new)) }
         ensures err { OnErr result (client_at side.new ≡ client_at side.old) }
         ensures back { IfErr result (λ held. held.0 ≡ batch) }
-        ensures moved { OnOk result (HasMoved (Publish (client_at side.old).place batch) self.old self.new) }
+        ensures did { OnOk result (HasDone (Publish (client_at side.old).place batch) self.old self.new) }
         ensures stays { OnErr result (self.new ≡ self.old) }
-        ensures opening { opening_at self.new ≡ opening_at self.old }
-        ensures mine { IsClientOf S.kind self.new side.new }
-        ensures clients { (other : PlainClient S S.Op S.Reply S.Task) → (client_at other).place ≢ (client_at side.old).place → IsClientOf S.kind self.old other → IsClientOf S.kind self.new other }
-        ensures trustee { (other : PlainTrustee S S.Op S.Reply S.Task) → IsTrusteeOf S.kind self.old other → IsTrusteeOf S.kind self.new other }
-        ensures step { OnOk result (core_at self.new ≡ published_at (client_at side.old).place batch.requests.items batch.room (core_at self.old)) }
+        ensures keeps { KeepsSides (plain_theory S.kind) self.old self.new side.old side.new }
     {
         let place = side.place as usize;
         if !self.places[place].is_free() {
@@ -107,19 +90,15 @@ impl<S: FitsTable> PairTable<S> for PlainTable<S> {
     fn collect(&mut self, side: &mut PlainClient<S>) -> Collected<S>
         requires mine { IsClientOf S.kind self.old side.old }
         ensures collects { Collects (client_at side.old) (client_at side.new) result }
-        ensures moved { OnLook result (self.new ≡ self.old) (HasMoved (Collect (client_at side.old).place) self.old self.new) }
-        ensures opening { opening_at self.new ≡ opening_at self.old }
-        ensures mine { IsClientOf S.kind self.new side.new }
-        ensures clients { (other : PlainClient S S.Op S.Reply S.Task) → (client_at other).place ≢ (client_at side.old).place → IsClientOf S.kind self.old other → IsClientOf S.kind self.new other }
-        ensures trustee { (other : PlainTrustee S S.Op S.Reply S.Task) → IsTrusteeOf S.kind self.old other → IsTrusteeOf S.kind self.new other }
-        ensures step { CollectsExactly (client_at side.old).place (core_at self.old) (core_at self.new) result }
+        ensures did { OnLook result (self.new ≡ self.old) (λ found. HasDone (Collect (client_at side.old).place found) self.old self.new) }
+        ensures keeps { KeepsSides (plain_theory S.kind) self.old self.new side.old side.new }
     {
         let place = side.place as usize;
         if self.places[place].is_free() {
             return Collected::Idle;
         }
         let found = self.places[place].collect();
-        self.past = collected(&self.past, side.place);
+        self.past = collected(&self.past, side.place, &found);
         side.past = again(&self.past);
         found
     }
@@ -130,15 +109,11 @@ impl<S: FitsTable> PairTable<S> for PlainTable<S> {
         requires in_range { client < place_count (opening_at self.old).setup }
         requires free { hand_of (trustee_at side.old) client ≡ None }
         ensures sees { MatchOption result (SeesNothing client (trustee_at side.old) (trustee_at side.new)) (λ b. Takes S.kind (opening_at self.old) client b.requests.items b.room (trustee_at side.old) (trustee_at side.new)) }
-        ensures moved { HasMoved (See client) self.old self.new }
-        ensures opening { opening_at self.new ≡ opening_at self.old }
-        ensures mine { IsTrusteeOf S.kind self.new side.new }
-        ensures clients { (other : PlainClient S S.Op S.Reply S.Task) → IsClientOf S.kind self.old other → IsClientOf S.kind self.new other }
-        ensures step { core_at self.new ≡ seen_at client (core_at self.old) }
-        ensures asked { IfSome result (λ b. (slot_of (core_at self.old) client).box ≡ Asked b.requests.items b.room) }
+        ensures did { HasDone (See client result) self.old self.new }
+        ensures keeps { KeepsClients (plain_theory S.kind) self.old self.new side.new }
     {
         let given = self.places[client as usize].see();
-        self.past = seen(&self.past, client);
+        self.past = seen(&self.past, client, &given);
         side.past = again(&self.past);
         given
     }
@@ -153,18 +128,13 @@ impl<S: FitsTable> PairTable<S> for PlainTable<S> {
         requires mine { IsTrusteeOf S.kind self.old side.old }
         requires may { MayAnswer S.kind (opening_at self.old) client E.resumes answers (trustee_at side.old) }
         ensures answers { HasAnswered client E.resumes answers (trustee_at side.old) (trustee_at side.new) }
-        ensures moved { HasMoved (answer_of client E.resumes answers) self.old self.new }
-        ensures opening { opening_at self.new ≡ opening_at self.old }
-        ensures mine { IsTrusteeOf S.kind self.new side.new }
-        ensures clients { (other : PlainClient S S.Op S.Reply S.Task) → IsClientOf S.kind self.old other → IsClientOf S.kind self.new other }
-        ensures step { IsSomeAnd (hand_of (trustee_at side.old) client) (λ hand. core_at self.new ≡ answer_with client hand.requests hand.room E.resumes answers (core_at self.old)) }
+        ensures did { HasDone (answer_of client E.resumes answers) self.old self.new }
+        ensures keeps { KeepsClients (plain_theory S.kind) self.old self.new side.new }
     {
         self.past = answered::<S, E>(&self.past, client, &answers);
         side.past = again(&self.past);
         self.places[client as usize].answer(answers);
     }
 
-    ghost client_is_good = { λ table side mine. client_side_good S.kind table side mine };
-
-    ghost trustee_is_good = { λ table side mine. trustee_side_good S.kind table side mine };
+    ghost laws = { plain_laws S.kind };
 }

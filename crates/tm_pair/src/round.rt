@@ -5,7 +5,8 @@ ghost use Rattle.std.specs.declared.option.Option.TheVariants.{None, Some};
 ghost use Rattle.tm_batch.specs.declared.batch.Batch.{Batch};
 ghost use Rattle.tm_model.specs.State.{State, place_count};
 ghost use Rattle.tm_model.specs.Serve.{state_after};
-ghost use Rattle.tm_pair.specs.Views.{ClientView, Hand, TrusteeView, hand_of};
+ghost use Rattle.tm_pair.specs.Views.{ClientView, BatchView, TrusteeView, hand_of};
+ghost use Rattle.tm_pair.specs.Theory.{KeepsSides, KeepsClients};
 ghost use Rattle.tm_pair.specs.Calls.{Publishes};
 ghost use Rattle.tm_pair.specs.declared.moves.Move.TheVariants.{Publish};
 ghost use Rattle.tm_pair.specs.Rounds.{NothingWaits, AnswersNothing, AnswersFound, FindsNothing};
@@ -23,17 +24,14 @@ pub fn ask_nothing<S: Entrusted, P: PairTable<S>>(
     table: &mut P,
     side: &mut P::ClientSide,
 ) -> Result<(), Held<S>>
-    requires mine { P.HasClient table.old side.old }
-    ensures free { IsOk result ↔ ((P.client_view side.old).out ≡ None) }
-    ensures ok { OnOk result (Publishes [] 0 (P.client_view side.old) (P.client_view side.new)) }
-    ensures err { OnErr result (P.client_view side.new ≡ P.client_view side.old) }
+    requires mine { P.theory.HasClient table.old side.old }
+    ensures free { IsOk result ↔ ((P.theory.client_view side.old).out ≡ None) }
+    ensures ok { OnOk result (Publishes [] 0 (P.theory.client_view side.old) (P.theory.client_view side.new)) }
+    ensures err { OnErr result (P.theory.client_view side.new ≡ P.theory.client_view side.old) }
     ensures back { IfErr result (λ held. (held.0.requests.items ≡ []) × (held.0.room ≡ 0)) }
     ensures stays { OnErr result (table.new ≡ table.old) }
-    ensures moved { OnOk result ((batch : Batch S S.Op S.Reply S.Task) × (batch.requests.items ≡ []) × (batch.room ≡ 0) × P.Moved (Publish (P.client_view side.old).place batch) table.old table.new) }
-    ensures mine { P.HasClient table.new side.new }
-    ensures opening { P.opening table.new ≡ P.opening table.old }
-    ensures clients { (other : P.ClientSide) → (P.client_view other).place ≢ (P.client_view side.old).place → P.HasClient table.old other → P.HasClient table.new other }
-    ensures trustee { (other : P.TrusteeSide) → P.HasTrustee table.old other → P.HasTrustee table.new other }
+    ensures did { OnOk result ((batch : Batch S S.Op S.Reply S.Task) × (batch.requests.items ≡ []) × (batch.room ≡ 0) × P.theory.Did (Publish (P.theory.client_view side.old).place batch) table.old table.new) }
+    ensures keeps { KeepsSides P.theory table.old table.new side.old side.new }
 {
     table.publish(side, Batch::new(0))
 }
@@ -55,16 +53,14 @@ fn answer_empty<S: FitsAnswers, P: PairTable<S>>(
     client: u32,
     front: u64,
 )
-    requires mine { P.HasTrustee table.old side.old }
-    requires in_range { client < place_count (P.opening table.old).setup }
-    requires hand { (room : ℕ) × (hand_of (P.trustee_view side.old) client ≡ Some (record { requests = []; room = room })) }
-    requires waits { NothingWaits (state_after S.kind (P.opening table.old) (P.trustee_view side.old).log) client }
-    requires front { front ≡ min (length (P.trustee_view side.old).log + 1) (2 ^ 64 - 1) }
-    ensures answers { (room : ℕ) → hand_of (P.trustee_view side.old) client ≡ Some (record { requests = []; room = room }) → AnswersNothing client room (P.trustee_view side.old) (P.trustee_view side.new) }
-    ensures looks { (P.trustee_view side.new).looks ≡ (P.trustee_view side.old).looks }
-    ensures mine { P.HasTrustee table.new side.new }
-    ensures opening { P.opening table.new ≡ P.opening table.old }
-    ensures clients { (other : P.ClientSide) → P.HasClient table.old other → P.HasClient table.new other }
+    requires mine { P.theory.HasTrustee table.old side.old }
+    requires in_range { client < place_count (P.theory.opening table.old).setup }
+    requires hand { (room : ℕ) × (hand_of (P.theory.trustee_view side.old) client ≡ Some (record { requests = []; room = room })) }
+    requires waits { NothingWaits (state_after S.kind (P.theory.opening table.old) (P.theory.trustee_view side.old).log) client }
+    requires front { front ≡ min (length (P.theory.trustee_view side.old).log + 1) (2 ^ 64 - 1) }
+    ensures answers { (room : ℕ) → hand_of (P.theory.trustee_view side.old) client ≡ Some (record { requests = []; room = room }) → AnswersNothing client room (P.theory.trustee_view side.old) (P.theory.trustee_view side.new) }
+    ensures looks { (P.theory.trustee_view side.new).looks ≡ (P.theory.trustee_view side.old).looks }
+    ensures keeps { KeepsClients P.theory table.old table.new side.new }
 {
     legal_logs_join::<S>();
     states_are_sound::<S>();
@@ -82,17 +78,15 @@ pub fn answer_nothing<S: FitsAnswers, P: PairTable<S>>(
     client: u32,
     front: u64,
 ) -> Option<Batch<S>>
-    requires mine { P.HasTrustee table.old side.old }
-    requires in_range { client < place_count (P.opening table.old).setup }
-    requires free { hand_of (P.trustee_view side.old) client ≡ None }
-    requires waits { NothingWaits (state_after S.kind (P.opening table.old) (P.trustee_view side.old).log) client }
-    requires front { front ≡ min (length (P.trustee_view side.old).log + 1) (2 ^ 64 - 1) }
-    ensures answers { IsSomeAnd result (λ b. b.requests.items ≡ []) → (room : ℕ) × AnswersNothing client room (P.trustee_view side.old) (P.trustee_view side.new) }
-    ensures found { AnswersFound client result (P.trustee_view side.old) (P.trustee_view side.new) }
-    ensures log { ¬ IsSomeAnd result (λ b. b.requests.items ≡ []) → (P.trustee_view side.new).log ≡ (P.trustee_view side.old).log }
-    ensures mine { P.HasTrustee table.new side.new }
-    ensures opening { P.opening table.new ≡ P.opening table.old }
-    ensures clients { (other : P.ClientSide) → P.HasClient table.old other → P.HasClient table.new other }
+    requires mine { P.theory.HasTrustee table.old side.old }
+    requires in_range { client < place_count (P.theory.opening table.old).setup }
+    requires free { hand_of (P.theory.trustee_view side.old) client ≡ None }
+    requires waits { NothingWaits (state_after S.kind (P.theory.opening table.old) (P.theory.trustee_view side.old).log) client }
+    requires front { front ≡ min (length (P.theory.trustee_view side.old).log + 1) (2 ^ 64 - 1) }
+    ensures answers { IsSomeAnd result (λ b. b.requests.items ≡ []) → (room : ℕ) × AnswersNothing client room (P.theory.trustee_view side.old) (P.theory.trustee_view side.new) }
+    ensures found { AnswersFound client result (P.theory.trustee_view side.old) (P.theory.trustee_view side.new) }
+    ensures log { ¬ IsSomeAnd result (λ b. b.requests.items ≡ []) → (P.theory.trustee_view side.new).log ≡ (P.theory.trustee_view side.old).log }
+    ensures keeps { KeepsClients P.theory table.old table.new side.new }
 {
     let seen = table.see(side, client);
     if is_nothing(&seen) {
@@ -103,13 +97,10 @@ pub fn answer_nothing<S: FitsAnswers, P: PairTable<S>>(
 
 /// Asks nothing with a side that has nothing out.
 fn ask_free<S: FitsBatches, P: PairTable<S>>(table: &mut P, side: &mut P::ClientSide)
-    requires mine { P.HasClient table.old side.old }
-    requires out { (P.client_view side.old).out ≡ None }
-    ensures asks { Publishes [] 0 (P.client_view side.old) (P.client_view side.new) }
-    ensures mine { P.HasClient table.new side.new }
-    ensures opening { P.opening table.new ≡ P.opening table.old }
-    ensures clients { (other : P.ClientSide) → (P.client_view other).place ≢ (P.client_view side.old).place → P.HasClient table.old other → P.HasClient table.new other }
-    ensures trustee { (other : P.TrusteeSide) → P.HasTrustee table.old other → P.HasTrustee table.new other }
+    requires mine { P.theory.HasClient table.old side.old }
+    requires out { (P.theory.client_view side.old).out ≡ None }
+    ensures asks { Publishes [] 0 (P.theory.client_view side.old) (P.theory.client_view side.new) }
+    ensures keeps { KeepsSides P.theory table.old table.new side.old side.new }
 {
     let _ = ask_nothing(table, side);
 }
@@ -121,15 +112,13 @@ fn answer_free<S: FitsBatches, P: PairTable<S>>(
     client: u32,
     front: u64,
 )
-    requires mine { P.HasTrustee table.old side.old }
-    requires in_range { client < place_count (P.opening table.old).setup }
-    requires free { hand_of (P.trustee_view side.old) client ≡ None }
-    requires waits { NothingWaits (state_after S.kind (P.opening table.old) (P.trustee_view side.old).log) client }
-    requires front { front ≡ min (length (P.trustee_view side.old).log + 1) (2 ^ 64 - 1) }
-    ensures found { (seen : Option (Batch S S.Op S.Reply S.Task)) × AnswersFound client seen (P.trustee_view side.old) (P.trustee_view side.new) }
-    ensures mine { P.HasTrustee table.new side.new }
-    ensures opening { P.opening table.new ≡ P.opening table.old }
-    ensures clients { (other : P.ClientSide) → P.HasClient table.old other → P.HasClient table.new other }
+    requires mine { P.theory.HasTrustee table.old side.old }
+    requires in_range { client < place_count (P.theory.opening table.old).setup }
+    requires free { hand_of (P.theory.trustee_view side.old) client ≡ None }
+    requires waits { NothingWaits (state_after S.kind (P.theory.opening table.old) (P.theory.trustee_view side.old).log) client }
+    requires front { front ≡ min (length (P.theory.trustee_view side.old).log + 1) (2 ^ 64 - 1) }
+    ensures found { (seen : Option (Batch S S.Op S.Reply S.Task)) × AnswersFound client seen (P.theory.trustee_view side.old) (P.theory.trustee_view side.new) }
+    ensures keeps { KeepsClients P.theory table.old table.new side.new }
 {
     let _ = answer_nothing(table, side, client, front);
 }
@@ -146,19 +135,20 @@ pub fn once_round<S: FitsBatches, P: PairTable<S>>(
     place: u32,
     front: u64,
 ) -> Collected<S>
-    requires client { P.HasClient table.old client.old }
-    requires trustee { P.HasTrustee table.old trustee.old }
-    requires place { (P.client_view client.old).place ≡ place }
-    requires out { (P.client_view client.old).out ≡ None }
-    requires hand { hand_of (P.trustee_view trustee.old) place ≡ None }
-    requires waits { NothingWaits (state_after S.kind (P.opening table.old) (P.trustee_view trustee.old).log) place }
-    requires front { front ≡ min (length (P.trustee_view trustee.old).log + 1) (2 ^ 64 - 1) }
-    ensures finds { FindsNothing (P.client_view client.old) (P.client_view client.new) result }
-    ensures found { (seen : Option (Batch S S.Op S.Reply S.Task)) × AnswersFound place seen (P.trustee_view trustee.old) (P.trustee_view trustee.new) }
-    ensures client { P.HasClient table.new client.new }
-    ensures trustee { P.HasTrustee table.new trustee.new }
-    ensures opening { P.opening table.new ≡ P.opening table.old }
-    ensures clients { (other : P.ClientSide) → (P.client_view other).place ≢ place → P.HasClient table.old other → P.HasClient table.new other }
+    requires client { P.theory.HasClient table.old client.old }
+    requires trustee { P.theory.HasTrustee table.old trustee.old }
+    requires place { (P.theory.client_view client.old).place ≡ place }
+    requires out { (P.theory.client_view client.old).out ≡ None }
+    requires hand { hand_of (P.theory.trustee_view trustee.old) place ≡ None }
+    requires waits { NothingWaits (state_after S.kind (P.theory.opening table.old) (P.theory.trustee_view trustee.old).log) place }
+    requires front { front ≡ min (length (P.theory.trustee_view trustee.old).log + 1) (2 ^ 64 - 1) }
+    ensures finds { FindsNothing (P.theory.client_view client.old) (P.theory.client_view client.new) result }
+    ensures found { (seen : Option (Batch S S.Op S.Reply S.Task)) × AnswersFound place seen (P.theory.trustee_view trustee.old) (P.theory.trustee_view trustee.new) }
+    ensures same { P.theory.Same table.old table.new }
+    ensures client { P.theory.HasClient table.new client.new }
+    ensures trustee { P.theory.HasTrustee table.new trustee.new }
+    ensures opening { P.theory.opening table.new ≡ P.theory.opening table.old }
+    ensures clients { (other : P.ClientSide) → (P.theory.client_view other).place ≢ place → P.theory.HasClient table.old other → P.theory.HasClient table.new other }
 {
     ask_free(table, client);
     answer_free(table, trustee, place, front);

@@ -1,9 +1,12 @@
 //! A counter, a kind for tests.
-ghost use Rattle.std.specs.Prelude.{◌≡◌};
-ghost use Rattle.tm_seq.specs.Counting.{counter_kind, counter_laws};
+ghost use Rattle.std.specs.Prelude.{◌≡◌, refl};
+ghost use Rattle.tm_seq.specs.Counting.{counter_kind};
+ghost use Rattle.tm_seq.specs.CountingLaws.{counter_laws};
 ghost use Rattle.tm_seq.specs.Kind.{IsRun, IsResume};
+ghost use Rattle.tm_seq.specs.declared.counter.CounterReply.TheVariants.{Refused};
 
 use crate::kind::{Entrusted, Event, Next};
+use crate::sum::Beside;
 
 /// A number that wraps at 2^64.
 #[derive(Drop)]
@@ -26,7 +29,7 @@ pub enum CounterOp {
 pub enum CounterReply {
     /// The number after the operation.
     Is(u64),
-    /// A task could not ask, or was told what it did not await.
+    /// A task could not ask, was told what it did not await, or is of the other side of a sum.
     Refused,
     /// There was no memory.
     NoMemory,
@@ -107,5 +110,16 @@ impl Entrusted for Counter {
 
     fn no_memory() -> CounterReply {
         CounterReply::NoMemory
+    }
+}
+
+/// Two counters as one kind, for tests of sums.
+impl Beside<Counter> for Counter {
+    ghost other_side = { Refused };
+
+    ghost same_no_memory = { refl };
+
+    fn other() -> CounterReply {
+        CounterReply::Refused
     }
 }

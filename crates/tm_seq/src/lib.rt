@@ -7,9 +7,11 @@
 
 mod counter;
 mod kind;
+mod sum;
 
 pub use counter::{Counter, CounterOp, CounterReply, CounterTask};
 pub use kind::{Entrusted, Event, Next};
+pub use sum::{Beside, Sum};
 
 #[cfg(test)]
 mod tests;

@@ -7,9 +7,9 @@ use Rattle.tm_pair.proofs.round.answer_empty.Goals as goal
 pub answer-requires : goal.answer-requires
 answer-requires g c =
     let kind = g.S.Entrusted.kind in
-    let opening = g.P.PairTable.opening c.args.table.now in
-    let view = g.P.PairTable.trustee_view c.args.side.now in
-    let good = g.met.P.PairTable.trustee_is_good c.args.table.now c.args.side.now c.requires.mine in
+    let opening = g.P.PairTable.theory.opening c.args.table.now in
+    let view = g.P.PairTable.theory.trustee_view c.args.side.now in
+    let good = g.met.P.PairTable.laws.trustee_is_good c.args.table.now c.args.side.now c.requires.mine in
     let (room, is) = c.requires.hand in
     let most = (good.in_hand c.args.client _ is).most_gifts in
     let grows =
@@ -27,8 +27,8 @@ answer-requires g c =
 
 pub returns-clause-answers : goal.returns-clause-answers
 returns-clause-answers g c = λ room is.
-    let opening = g.P.PairTable.opening c.args.table.now in
-    let old = g.P.PairTable.trustee_view c.args.side.now in
-    let new = g.P.PairTable.trustee_view c.answer.new.side in
-    let good = g.met.P.PairTable.trustee_is_good c.args.table.now c.args.side.now c.requires.mine in
+    let opening = g.P.PairTable.theory.opening c.args.table.now in
+    let old = g.P.PairTable.theory.trustee_view c.args.side.now in
+    let new = g.P.PairTable.theory.trustee_view c.answer.new.side in
+    let good = g.met.P.PairTable.laws.trustee_is_good c.args.table.now c.args.side.now c.requires.mine in
     nothing.nothing_answered g.S.Entrusted.kind opening c.args.client room c.new.result old new good c.requires.in_range is c.answer.ensures.answers

@@ -3,8 +3,7 @@ ghost use Rattle.std.proofs.Common.{lit<};
 ghost use Rattle.tm_seq.specs.Kind.{IsResume};
 ghost use Rattle.tm_tests.specs.Sample.{less_kind, less_laws};
 
-use tm_batch::FitsAnswers;
-use tm_pair::{FitsBatches, FitsTable};
+use tm_batch::Fits;
 use tm_seq::{Entrusted, Event, Next};
 
 /// A number that is taken away from each number that is asked. It launches nothing, and `0` is its
@@ -45,11 +44,9 @@ impl Entrusted for Less {
     }
 }
 
-impl FitsAnswers for Less {
+impl Fits for Less {
     ghost fits = { lit< tt };
-}
 
-impl FitsBatches for Less {
     ghost fits_batch = { lit< tt };
 
     ghost fits_held = { lit< tt };
@@ -57,10 +54,10 @@ impl FitsBatches for Less {
     ghost fits_seen = { lit< tt };
 
     ghost fits_found = { lit< tt };
-}
 
-impl FitsTable for Less {
     ghost fits_place = { lit< tt };
 
     ghost fits_move = { lit< tt };
+
+    ghost fits_content = { lit< tt };
 }

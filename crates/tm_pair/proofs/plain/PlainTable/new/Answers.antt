@@ -1,6 +1,10 @@
-use Rattle.std.proofs.Common.{sym, ◌∙◌, subst}
+use Rattle.std.proofs.Common.{◌≡◌, sym, ◌∙◌, subst}
 use Rattle.tm_model.specs.Opening.{IsBuildable, opening_of}
-use Rattle.tm_pair.specs.Opened.{IsOpened}
+use Rattle.tm_model.specs.Laws.{first_of}
+use Rattle.tm_pair.specs.Theory.{IsNewTable}
+use Rattle.tm_pair.specs.Plain.{core_at, plain_theory}
+use Rattle.tm_pair.specs.declared.plain.PlainTable.{PlainTable}
+use Rattle.tm_pair.specs.declared.plain.PlainTrustee.{PlainTrustee}
 use Rattle.tm_pair.proofs.Opening.{opened}
 use Rattle.tm_pair.proofs.plain.PlainTable.new.Goals as goal
 
@@ -9,11 +13,13 @@ returns g c =
     let config = c.args.config in
     let places = c.in_ok-places.places in
     let clients = c.in_ok-clients.clients in
-    subst
-    (λ l. IsOpened g.S.Entrusted.kind (opening_of c.args.number config l)
-    (record { places = places; number = c.args.number; config = config; first = c.told.result; past = c.opened.result }) clients.items
-    (record { past = c.opened-2.result })) c.told.ensures
-    (opened g.S.Entrusted.kind (record { places = places; number = c.args.number; config = config; first = c.told.result; past = c.opened.result })
-    clients.items (record { past = c.opened-2.result }) (subst (λ l. IsBuildable config l) (sym c.told.ensures) c.requires.buildable)
+    let table : PlainTable _ _ _ _ = record { places = places; number = c.args.number; config = config; first = c.told.result; past = c.opened.result } in
+    let trustee : PlainTrustee _ _ _ _ = record { past = c.opened-2.result } in
+    let (new, core) =
+    opened g.S.Entrusted.kind table clients.items trustee (subst (λ l. IsBuildable config l) (sym c.told.ensures) c.requires.buildable)
     c.requires.number c.opened.ensures (sym places.ok.0 ∙ c.in_ok-places.ensures.count) c.in_ok-places.ensures.new
-    (sym clients.ok.0 ∙ c.in_ok-clients.ensures.count) c.in_ok-clients.ensures.new c.opened-2.ensures)
+    (sym clients.ok.0 ∙ c.in_ok-clients.ensures.count) c.in_ok-clients.ensures.new c.opened-2.ensures in
+    record {
+      new = subst (λ l. IsNewTable (plain_theory g.S.Entrusted.kind) (opening_of c.args.number config l) table clients.items trustee) c.told.ensures new;
+      core = subst (λ l. core_at table ≡ first_of (opening_of c.args.number config l)) c.told.ensures core;
+    }

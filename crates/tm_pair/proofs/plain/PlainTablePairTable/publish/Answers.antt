@@ -2,12 +2,14 @@ use Rattle.std.proofs.Common.{rules, refl, sym, ◌∙◌, ap, subst}
 use Rattle.tm_model.specs.Slots.{slot_of, publish, published}
 use Rattle.tm_model.specs.Orderly.{IsOrderly}
 use Rattle.tm_core.proofs.Accounts.{publish_keeps_good}
-use Rattle.tm_pair.specs.Stands.{room_out, client_of, trustee_of}
+use Rattle.tm_pair.specs.SideViews.{batch_out, client_of, trustee_of}
 use Rattle.tm_pair.specs.Moves.{core_after}
 use Rattle.tm_pair.specs.Calls.{Publishes}
 use Rattle.tm_pair.specs.Plain.{opening_at, core_at}
 use Rattle.tm_pair.specs.declared.moves.Move.TheVariants.{Publish}
 use Rattle.tm_pair.proofs.Stepping as stepping
+use Rattle.tm_pair.proofs.Calling as calling
+use Rattle.tm_pair.proofs.Owing.{is_client}
 use Rattle.tm_pair.proofs.Tabling as tabling
 use Rattle.tm_pair.proofs.plain.PlainTablePairTable.publish.Goals as goal
 
@@ -32,19 +34,15 @@ returns-then-not-is_free g c =
       free = (
         λ e. absurd cc,
         λ e.
-            let empty = tabling.nothing_out box (sym (ap (λ v. v.out) mine.view) ∙ e) in
+            let empty = calling.nothing_out box (slot_of core at).sent (sym (ap (λ v. v.out) mine.view) ∙ e) in
             sym c.if-not-is_free.true ∙ c.is_free.ensures.1 (tabling.empty_is_free first.content box looks.box empty),
       );
       ok = tt;
       err = refl;
       back = refl;
-      moved = tt;
+      did = tt;
       stays = refl;
-      opening = refl;
-      mine = mine;
-      clients = λ other ne has. has;
-      trustee = λ other has. has;
-      step = tt;
+      keeps = record { same = refl; opening = refl; mine = mine; clients = λ other ne has. has; trustee = λ other has. has };
     }
 
 pub returns : goal.returns
@@ -65,8 +63,8 @@ returns g c =
     let was = c.index_mut.result.now in
     let new = c.publish.new.self in
     let empty = tabling.free_is_empty first.content box looks.box (c.is_free.ensures.0 c.if-not-is_free.false) in
-    let none = ap (λ v. v.out) mine.view ∙ ap (λ x. room_out x) empty in
-    let step = tabling.core_next table.past.items c.published-self.result.items (Publish at b) c.published-self.ensures in
+    let none = ap (λ v. v.out) mine.view ∙ ap (λ x. batch_out x (slot_of core at).sent) empty in
+    let step = calling.core_next table.past.items c.published-self.result.items (Publish at b) c.published-self.ensures in
     let again = ap (λ l. core_after l) c.again-side.ensures ∙ step in
     let next = tabling.next_table kind table of at new c.published-self.result (publish at b.requests.items b.room core) step
     (publish_keeps_good kind opening core at b.requests.items b.room
@@ -82,19 +80,23 @@ returns g c =
           (stepping.publishes core at b.requests.items b.room lt));
       err = tt;
       back = tt;
-      moved = step;
+      did = record { may = empty; core = step };
       stays = tt;
-      opening = refl;
-      mine = record { of_table = next; in_range = mine.in_range; view = ap (λ l. client_of at (slot_of (core_after l) at)) c.again-side.ensures };
-      clients = λ other ne has. record {
-        of_table = next;
-        in_range = has.in_range;
-        view = has.view ∙ sym (ap (λ s. client_of other.place s) (stepping.other_slot core at other.place (published b.requests.items b.room (slot_of core at)) ne))
-            ∙ ap (λ k. client_of other.place (slot_of k other.place)) (sym step);
+      keeps = record {
+        same = refl;
+        opening = refl;
+        mine = is_client kind _ next _ mine.in_range (ap (λ l. client_of at (slot_of (core_after l) at)) c.again-side.ensures);
+        clients = λ other ne has. record {
+          of_table = next;
+          is_good = has.is_good;
+          in_range = has.in_range;
+          view = has.view ∙ sym (ap (λ s. client_of other.place s) (stepping.other_slot core at other.place (published b.requests.items b.room (slot_of core at)) ne))
+              ∙ ap (λ k. client_of other.place (slot_of k other.place)) (sym step);
+        };
+        trustee = λ other has. record {
+          of_table = next;
+          is_good = has.is_good;
+          view = has.view ∙ sym (stepping.publish_trustee core at b.requests.items b.room empty) ∙ ap (λ k. trustee_of k) (sym step);
+        };
       };
-      trustee = λ other has. record {
-        of_table = next;
-        view = has.view ∙ sym (stepping.publish_trustee core at b.requests.items b.room empty) ∙ ap (λ k. trustee_of k) (sym step);
-      };
-      step = step;
     }

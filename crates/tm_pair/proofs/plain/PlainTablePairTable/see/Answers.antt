@@ -3,13 +3,14 @@ use Rattle.std.specs.Prelude.{MatchOption}
 use Rattle.tm_model.specs.Slots.{slot_of, see}
 use Rattle.tm_core.proofs.Accounts.{see_keeps_good}
 use Rattle.tm_core.proofs.Promised.{batches_are_promised}
-use Rattle.tm_pair.specs.Stands.{client_of, trustee_of}
+use Rattle.tm_pair.specs.SideViews.{client_of, trustee_of}
 use Rattle.tm_pair.specs.Moves.{core_after}
 use Rattle.tm_pair.specs.Calls.{SeesNothing, Takes}
 use Rattle.tm_pair.specs.Plain.{opening_at, core_at}
-use Rattle.tm_pair.specs.Standing.{opens}
 use Rattle.tm_pair.specs.declared.moves.Move.TheVariants.{See}
 use Rattle.tm_pair.proofs.Stepping as stepping
+use Rattle.tm_pair.proofs.Calling as calling
+use Rattle.tm_pair.proofs.Owing.{opens, is_trustee}
 use Rattle.tm_pair.proofs.Tabling as tabling
 use Rattle.tm_pair.proofs.plain.PlainTablePairTable.see.Goals as goal
 
@@ -27,12 +28,13 @@ returns g c =
     let place = tabling.place_in_range kind table of at c.requires.in_range in
     let is = c.index_mut.ensures.value in
     let shown = tabling.slot_shown table.places.items at was new core place is of.shows in
-    let step = tabling.core_next table.past.items c.seen-self.result.items (See at) c.seen-self.ensures in
+    let step = calling.core_next table.past.items c.seen-self.result.items (See at c.see-given.result) c.seen-self.ensures in
     let again = ap (λ l. core_after l) c.again-side.ensures ∙ step in
     let next = tabling.next_table kind table of at new c.seen-self.result (see at core) step
     (see_keeps_good kind opening core at lt of.good)
     (tabling.see_shown table.places.items at was new core place is of.shows c.see-given.result c.see-given.ensures.gave c.see-given.ensures.words) in
-    let sees = stepping.sees kind opening core at was.content new.content c.see-given.result shown.box c.see-given.ensures.gave
+    let finds = tabling.gave_finds was.content new.content c.see-given.result (slot_of core at).box shown.box c.see-given.ensures.gave in
+    let sees = stepping.sees kind opening core at c.see-given.result finds
     (λ b room asked. (batches_are_promised kind opening core at b room (opens kind table of) of.good lt).0 asked) in
     record {
       sees =
@@ -40,14 +42,16 @@ returns g c =
           (λ b. Takes kind opening at b.requests.items b.room old (trustee_of (core_after c.again-side.result.items)))) (sym c.requires.mine.view)
           (subst (λ k. MatchOption c.see-given.result (SeesNothing at (trustee_of core) (trustee_of k))
           (λ b. Takes kind opening at b.requests.items b.room (trustee_of core) (trustee_of k))) (sym again) sees);
-      moved = step;
-      opening = refl;
-      mine = record { of_table = next; view = ap (λ l. trustee_of (core_after l)) c.again-side.ensures };
-      clients = λ other has. record {
-        of_table = next;
-        in_range = has.in_range;
-        view = has.view ∙ sym (stepping.see_clients core at other.place lt) ∙ ap (λ k. client_of other.place (slot_of k other.place)) (sym step);
+      did = record { may = finds; core = step };
+      keeps = record {
+        same = refl;
+        opening = refl;
+        mine = is_trustee kind _ next _ (ap (λ l. trustee_of (core_after l)) c.again-side.ensures);
+        clients = λ other has. record {
+          of_table = next;
+          is_good = has.is_good;
+          in_range = has.in_range;
+          view = has.view ∙ sym (stepping.see_clients core at other.place lt) ∙ ap (λ k. client_of other.place (slot_of k other.place)) (sym step);
+        };
       };
-      step = step;
-      asked = tabling.gave_asked was.content new.content c.see-given.result (slot_of core at).box shown.box c.see-given.ensures.gave;
     }

@@ -1,21 +1,22 @@
 -- What the sides of a core stand for.
-use Rattle.std.specs.Prelude.{ℕ, map}
+use Rattle.std.specs.Prelude.{ℕ, ◌-◌, List, length, map, drop}
 use Rattle.std.specs.declared.option.Option.{Option}
 use Rattle.std.specs.declared.option.Option.TheVariants.{None, Some}
+use Rattle.tm_batch.specs.declared.message.Request.{Request}
 use Rattle.tm_model.specs.Slots.{Empty, Asked, Taken, Answered}
 use Rattle.tm_model.specs.Good.{FullBox, FullSlot, FullCore}
-use Rattle.tm_pair.specs.Views.{ClientView, Hand, TrusteeView}
+use Rattle.tm_pair.specs.Views.{BatchView, ClientView, TrusteeView}
 
 module _ {V O R T : Type 0} where
-  -- the room of the batch that is out
-  abbrev pub room_out : FullBox V O R T → Option ℕ
-  room_out Empty = None
-  room_out (Asked b room) = Some room
-  room_out (Taken b room) = Some room
-  room_out (Answered a upto room) = Some room
+  -- the batch that is out; one whose answers are back is the last of what was sent, as many requests as there are answers
+  abbrev pub batch_out : FullBox V O R T → List (Request V O R T) → Option (BatchView V O R T)
+  batch_out Empty sent = None
+  batch_out (Asked b room) sent = Some (record { requests = b; room = room })
+  batch_out (Taken b room) sent = Some (record { requests = b; room = room })
+  batch_out (Answered a upto room) sent = Some (record { requests = drop (length sent - length a.answers.items) sent; room = room })
 
   -- the batch that the trustee has in hand
-  abbrev pub hand_in : FullBox V O R T → Option (Hand V O R T)
+  abbrev pub hand_in : FullBox V O R T → Option (BatchView V O R T)
   hand_in (Taken b room) = Some (record { requests = b; room = room })
   hand_in Empty = None
   hand_in (Asked b room) = None
@@ -24,7 +25,7 @@ module _ {V O R T : Type 0} where
   -- what the client's side of a slot stands for
   abbrev pub client_of : ℕ → FullSlot V O R T → ClientView V O R T
   client_of c slot =
-      record { place = c; sent = slot.sent; got = slot.got; seen = slot.seen; out = room_out slot.box; looks = slot.client }
+      record { place = c; sent = slot.sent; got = slot.got; seen = slot.seen; out = batch_out slot.box slot.sent; looks = slot.client }
 
   -- what the trustee's side of a core stands for
   abbrev pub trustee_of : FullCore V O R T → TrusteeView V O R T
