@@ -1,35 +1,33 @@
 -- What stays true of a side over a step.
-use Rattle.std.proofs.Common.{inl, inr, get_or-set_same, get_or-set_other, length-set, ◌≡◌, ◌≢◌, ℕ, zero, suc, ◌+◌, ◌-◌, ◌<◌, ◌≤◌, Bool, true, false, true≢false, not, List, [], ◌∷◌, length, slice_index_or, slice_set, refl, sym, ◌∙◌, ap, subst, arith}
+use Rattle.std.proofs.Common.{inl, inr, get_or-set_same, get_or-set_other, ◌≡◌, ◌≢◌, ℕ, zero, suc, ◌+◌, ◌-◌, ◌<◌, ◌≤◌, Bool, true, false, List, [], ◌∷◌, length, slice_index_or, slice_set, refl, sym, ◌∙◌, ap, subst, arith}
 use Rattle.std.specs.Prelude.{vec_len}
 use Rattle.std.specs.declared.option.Option.TheVariants.{None, Some}
 use Rattle.std.specs.declared.option.Option.{Option as RustOption}
+use Rattle.std.proofs.lemmas.List.{get_or_past}
+use Rattle.std.proofs.lemmas.Bool.{cases_lt, cases_eq}
 use Rattle.atomic_table.specs.Table.{rest, step}
 use mathlib.Core.Option.{none}
 use Rattle.tm_seq.specs.Kind.{Kind}
 use Rattle.tm_batch.specs.declared.batch.Batch.{Batch}
 use Rattle.tm_batch.specs.declared.message.AnswerBatch.{AnswerBatch}
-use Rattle.tm_model.specs.State.{State}
-use Rattle.std.proofs.lemmas.List.{get_or_past}
-use Rattle.std.proofs.lemmas.Bool.{cases_lt, cases_eq}
-use Rattle.tm_model.specs.State.{place_count}
 use Rattle.tm_model.specs.declared.entry.Entry.{Entry}
-use Rattle.tm_pair.specs.Views.{ClientView, TrusteeView, Hand, hand_of}
+use Rattle.tm_model.specs.State.{place_count}
+use Rattle.tm_pair.specs.Views.{BatchView, ClientView, TrusteeView, hand_of}
 use Rattle.tm_pair.specs.Sides.{IsGoodClient, IsGoodTrustee}
+use Rattle.tm_pair.specs.Theory.{KeepsSides, KeepsClients}
 use Rattle.tm_pair.specs.declared.moves.Move.{Move}
+use Rattle.tm_pair.specs.declared.table.Collected.{Collected}
 use Rattle.tm_pair.specs.declared.table.Collected.TheVariants.{Answers, Pending}
-use Rattle.tm_toggle.specs.Ruled.{told, bit, s_of, opening_in, client_in, trustee_in}
+use Rattle.tm_toggle.specs.Contents.{batch_in, answers_in, IsClear}
+use Rattle.tm_toggle.specs.Ruled.{listed, bit, s_of, opening_in, client_in, trustee_in}
 use Rattle.tm_toggle.specs.Plays.{Sat, asks, replies, HasPublished, HasCollected, HasMissed, HasTaken, HasReplied, publishes, AnswersAt, answers}
-use Rattle.tm_toggle.specs.Shared.{opening_at, id_of, client_knows, trustee_knows, client_at, trustee_at, IsClientOf, IsTrusteeOf}
-use Rattle.tm_toggle.specs.declared.view.Content.{Content}
-use Rattle.tm_toggle.specs.declared.view.Content.TheVariants.{Empty, Asked, Answered}
+use Rattle.tm_toggle.specs.Shared.{opening_at, id_of, client_knows, trustee_knows, client_at, trustee_at, IsClientOf, IsTrusteeOf, shared_theory}
+use Rattle.tm_toggle.specs.declared.content.Content.{Content}
 use Rattle.tm_toggle.specs.declared.view.View.{View}
 use Rattle.tm_toggle.specs.declared.sides.SharedClient.{SharedClient}
 use Rattle.tm_toggle.specs.declared.sides.SharedTrustee.{SharedTrustee}
 use Rattle.tm_toggle.specs.declared.shared.SharedTable.{SharedTable}
-use Rattle.tm_toggle.proofs.Moves.{flips, low, same_bit}
-
-off : true ≡ false → ⊥
-off e = true≢false e
+use Rattle.tm_toggle.proofs.Facts.{off, flips, same_bit}
 
 pub held : {A : Type 0} (l : List (ℕ × A)) (k : ℕ) (y : A) (more : List (ℕ × A)) → l ≡ (k, y) ∷ more → l ≡ (k, y) ∷ rest l
 held {A} l k y more e = e ∙ ap (λ (z : List (ℕ × A)). (k, y) ∷ rest z) (sym e)
@@ -40,37 +38,34 @@ any_default (x ∷ xs) zero a b h = refl
 any_default (x ∷ xs) (suc i) a b h = any_default xs i a b (omega arith)
 
 module _ {V O R T : Type 0} where
-  content_or : Content V O R T → List (ℕ × Content V O R T) → Content V O R T
-  content_or d [] = d
-  content_or d (x ∷ xs) = x.1
+  -- a call at a client's side, and at the trustee's, that keeps the side
+  pub keeps_sides :
+      (kind : Kind V O R T) (table : SharedTable V O R T) (before after : SharedClient V O R T) → IsClientOf kind table after → KeepsSides (shared_theory kind) table table before after
+  keeps_sides kind table before after mine = record {
+    same = record { id = refl; key = refl };
+    opening = refl;
+    mine = mine;
+    clients = λ other apart has. has;
+    trustee = λ other has. has;
+  }
 
-  pub same_content : (l : List (ℕ × Content V O R T)) (k j : ℕ) (x y : Content V O R T) (more more' : List (ℕ × Content V O R T)) → l ≡ (k, x) ∷ more → l ≡ (j, y) ∷ more' → x ≡ y
-  unfolding content_or
-  same_content l k j x y more more' e e' = ap (content_or x) (sym e ∙ e')
-
-  abbrev asked_in : Batch V O R T → Content V O R T
-  asked_in b = Asked b
-
-  abbrev answered_in : AnswerBatch V O R T → Content V O R T
-  answered_in a = Answered a
-
-  abbrev nothing_at : ℕ → List (ℕ × Content V O R T)
-  nothing_at c = (c, Empty) ∷ []
-
-  pub same_asked : (a b : Batch V O R T) → asked_in a ≡ asked_in b → a ≡ b
-  same_asked a b e = ap (λ (s : Content V O R T). elim s [ Empty ↦ a | Asked x ↦ x | Answered x ↦ a ]) e
-
-  pub same_answers : (a b : AnswerBatch V O R T) → answered_in a ≡ answered_in b → a ≡ b
-  same_answers a b e = ap (λ (s : Content V O R T). elim s [ Empty ↦ a | Asked x ↦ a | Answered x ↦ x ]) e
+  pub keeps_clients :
+      (kind : Kind V O R T) (table : SharedTable V O R T) (after : SharedTrustee V O R T) → IsTrusteeOf kind table after → KeepsClients (shared_theory kind) table table after
+  keeps_clients kind table after mine = record {
+    same = record { id = refl; key = refl };
+    opening = refl;
+    mine = mine;
+    clients = λ other has. has;
+  }
 
   module _ (kind : Kind V O R T) (table : SharedTable V O R T) where
     -- a client's side after a step of its own
     stepped :
         (side new : SharedClient V O R T) (past : List (Move V O R T)) (carried : List (ℕ × Content V O R T)) → IsClientOf kind table side
-        → new.seat.table_id ≡ side.seat.table_id → new.seat.me ≡ (record (client_knows side) { past = told past }, carried) → new.place ≡ side.place
+        → new.seat.table_id ≡ side.seat.table_id → new.seat.me ≡ (record (client_knows side) { past = listed past }, carried) → new.place ≡ side.place
         → new.word ≡ bit (asks past (client_knows side).place)
-        → (new.out ≡ false → ((client_in (client_knows side).place past).out ≡ None) × (carried ≡ (side.place, Empty) ∷ []))
-        → (new.out ≡ true → ((room : ℕ) × ((client_in (client_knows side).place past).out ≡ Some room)) × (carried ≡ []))
+        → (new.out ≡ false → ((client_in (client_knows side).place past).out ≡ None) × ((y : Content V O R T) × (carried ≡ (side.place, y) ∷ []) × IsClear y))
+        → (new.out ≡ true → ((batch : BatchView V O R T) × ((client_in (client_knows side).place past).out ≡ Some batch)) × (carried ≡ []))
         → IsGoodClient kind (opening_in (client_knows side)) (client_in (client_knows side).place past)
         → IsClientOf kind table new
     stepped side new past carried k z e pl word free away good =
@@ -81,18 +76,22 @@ module _ {V O R T : Type 0} where
           opening_is = ap (λ (x : Sat V O R T). opening_in x.0) e ∙ k.opening_is;
           sized = k.sized;
           client = ap (λ (x : Sat V O R T). x.0.trustee) e ∙ k.client;
+          plain = ap (λ (x : Sat V O R T). x.0.note) e ∙ k.plain;
           settled = ap (λ (x : Sat V O R T). x.0.settled) e ∙ k.settled;
           place = ap (λ (x : Sat V O R T). x.0.place) e ∙ k.place ∙ sym pl;
           in_range = subst (λ (n : ℕ). n < (id_of table).slots) (sym pl) k.in_range;
           word = word ∙ ap (λ (n : ℕ). bit (asks past n)) (k.place ∙ sym pl) ∙ ap (λ (x : Sat V O R T). bit (asks x.0.past.items new.place)) (sym e);
-          free = λ o. let f = free o in (ap (λ (x : ClientView V O R T). x.out) seen ∙ f.0, ap (λ (x : Sat V O R T). x.1) e ∙ f.1 ∙ ap nothing_at (sym pl));
+          free = λ o. let f = free o in (
+            ap (λ (x : ClientView V O R T). x.out) seen ∙ f.0,
+            (f.1.0, ap (λ (x : Sat V O R T). x.1) e ∙ f.1.1 ∙ ap (λ (n : ℕ). (n, f.1.0) ∷ []) (sym pl), f.1.2),
+          );
           away = λ o. let f = away o in ((f.0.0, ap (λ (x : ClientView V O R T). x.out) seen ∙ f.0.1), ap (λ (x : Sat V O R T). x.1) e ∙ f.1);
           good = subst (λ o. IsGoodClient kind o (client_at new)) k.opening_is (subst (λ x. IsGoodClient kind (opening_in v) x) (sym seen) good);
         }
 
     pub published_side :
         (side new : SharedClient V O R T) (batch : Batch V O R T) (past : List (Move V O R T)) → IsClientOf kind table side
-        → new.seat.table_id ≡ side.seat.table_id → new.seat.me ≡ (record (client_knows side) { past = told past }, []) → new.place ≡ side.place
+        → new.seat.table_id ≡ side.seat.table_id → new.seat.me ≡ (record (client_knows side) { past = listed past }, []) → new.place ≡ side.place
         → new.out ≡ true → new.word ≡ 1 - side.word
         → HasPublished kind (opening_in (client_knows side)) (client_knows side).place batch (client_knows side).past.items past
         → IsClientOf kind table new
@@ -101,26 +100,26 @@ module _ {V O R T : Type 0} where
         stepped side new past [] k z e pl
         (word ∙ ap (λ (n : ℕ). 1 - n) (k.word ∙ ap (λ (n : ℕ). bit (asks v.past.items n)) (sym k.place)) ∙ sym (flips (asks v.past.items v.place)) ∙ ap bit (sym h.word))
         (λ o. absurd (off (sym out ∙ o)))
-        (λ _. ((batch.room, h.publishes.out), refl))
+        (λ _. ((record { requests = batch.requests.items; room = batch.room }, h.publishes.out), refl))
         h.good
 
     pub collected_side :
-        (side new : SharedClient V O R T) (a : AnswerBatch V O R T) (past : List (Move V O R T)) → IsClientOf kind table side
-        → new.seat.table_id ≡ side.seat.table_id → new.seat.me ≡ (record (client_knows side) { past = told past }, (side.place, Empty) ∷ []) → new.place ≡ side.place
+        (side new : SharedClient V O R T) (a : AnswerBatch V O R T) (y : Content V O R T) (past : List (Move V O R T)) → IsClientOf kind table side
+        → new.seat.table_id ≡ side.seat.table_id → new.seat.me ≡ (record (client_knows side) { past = listed past }, (side.place, y) ∷ []) → IsClear y → new.place ≡ side.place
         → new.out ≡ false → new.word ≡ side.word
         → HasCollected kind (opening_in (client_knows side)) (client_knows side).place (Answers a) (client_knows side).past.items past
         → IsClientOf kind table new
-    collected_side side new a past k z e pl out word h =
+    collected_side side new a y past k z e clear pl out word h =
         let v = client_knows side in
-        stepped side new past ((side.place, Empty) ∷ []) k z e pl
+        stepped side new past ((side.place, y) ∷ []) k z e pl
         (word ∙ (k.word ∙ ap (λ (n : ℕ). bit (asks v.past.items n)) (sym k.place)) ∙ ap bit (sym h.word))
-        (λ _. (h.collects.out, refl))
+        (λ _. (h.collects.out, (y, refl, clear)))
         (λ o. absurd (off (sym o ∙ out)))
         h.good
 
     pub pending_side :
         (side new : SharedClient V O R T) (past : List (Move V O R T)) → IsClientOf kind table side
-        → new.seat.table_id ≡ side.seat.table_id → new.seat.me ≡ (record (client_knows side) { past = told past }, side.seat.me.1) → new.place ≡ side.place
+        → new.seat.table_id ≡ side.seat.table_id → new.seat.me ≡ (record (client_knows side) { past = listed past }, side.seat.me.1) → new.place ≡ side.place
         → side.out ≡ true → new.out ≡ true → new.word ≡ side.word
         → HasCollected kind (opening_in (client_knows side)) (client_knows side).place Pending (client_knows side).past.items past
         → IsClientOf kind table new
@@ -133,13 +132,13 @@ module _ {V O R T : Type 0} where
         h.good
 
   pub told_published :
-      (kind : Kind V O R T) (m n : Sat V O R T) (v : View V O R T) (batch : Batch V O R T) → m ≡ (v, (v.place, Asked batch) ∷ [])
+      (kind : Kind V O R T) (m n : Sat V O R T) (v : View V O R T) (y : Content V O R T) → m ≡ (v, (v.place, y) ∷ [])
       → publishes kind (step 0 0 0 0 none) m 0 n
-      → (past : List (Move V O R T)) × (n ≡ (record v { past = told past }, [])) × HasPublished kind (opening_in v) v.place batch v.past.items past
-  told_published kind m n v batch e told = (subst (λ (z : Sat V O R T). publishes kind (step 0 0 0 0 none) z 0 n) e told) batch refl
+      → (past : List (Move V O R T)) × (n ≡ (record v { past = listed past }, [])) × HasPublished kind (opening_in v) v.place (batch_in y) v.past.items past
+  told_published kind m n v y e told = (subst (λ (z : Sat V O R T). publishes kind (step 0 0 0 0 none) z 0 n) e told) y refl
 
   -- what is in hand of a place is of a place of the table
-  pub hand_below : (view : TrusteeView V O R T) (c : ℕ) (hand : Hand V O R T) → hand_of view c ≡ Some hand → c < length view.hands
+  pub hand_below : (view : TrusteeView V O R T) (c : ℕ) (hand : BatchView V O R T) → hand_of view c ≡ Some hand → c < length view.hands
   hand_below view c hand e =
       elim (cases_lt c (length view.hands)) [
         | inl lt ↦ lt
@@ -147,9 +146,9 @@ module _ {V O R T : Type 0} where
       ]
 
   pub told_answered :
-      (kind : Kind V O R T) (resumes : List (Entry V O R T)) (m n : Sat V O R T) (v : View V O R T) (c : ℕ) (a : AnswerBatch V O R T) → m ≡ (v, (c, Answered a) ∷ [])
-      → answers kind resumes (step 0 (s_of c) 0 0 none) m 0 n → AnswersAt kind resumes c a (v, (c, Answered a) ∷ []) n
-  told_answered kind resumes m n v c a e told = (subst (λ (z : Sat V O R T). answers kind resumes (step 0 (s_of c) 0 0 none) z 0 n) e told) c a refl refl
+      (kind : Kind V O R T) (resumes : List (Entry V O R T)) (m n : Sat V O R T) (v : View V O R T) (c : ℕ) (y : Content V O R T) → m ≡ (v, (c, y) ∷ [])
+      → answers kind resumes (step 0 (s_of c) 0 0 none) m 0 n → AnswersAt kind resumes c y (v, (c, y) ∷ []) n
+  told_answered kind resumes m n v c y e told = (subst (λ (z : Sat V O R T). answers kind resumes (step 0 (s_of c) 0 0 none) z 0 n) e told) c y refl refl
 
   -- something was put into the one slot that a seat has
   pub put_in :
@@ -167,7 +166,7 @@ module _ {V O R T : Type 0} where
     -- the trustee's side after a step of its own
     pub stepped_trustee :
         (side new : SharedTrustee V O R T) (past : List (Move V O R T)) → IsTrusteeOf kind table side → new.seat.table_id ≡ side.seat.table_id
-        → new.seat.me ≡ (record (trustee_knows side) { past = told past; up = 0 }, []) → length new.words.items ≡ length side.words.items → vec_len new.words ≡ vec_len side.words
+        → new.seat.me ≡ (record (trustee_knows side) { past = listed past; up = 0 }, []) → length new.words.items ≡ length side.words.items → vec_len new.words ≡ vec_len side.words
         → ((c : ℕ) → c < (id_of table).slots → slice_index_or new.words.items c 0 ≡ bit (replies past c))
         → IsGoodTrustee kind (opening_in (trustee_knows side)) (trustee_in past)
         → IsTrusteeOf kind table new
@@ -178,6 +177,7 @@ module _ {V O R T : Type 0} where
           opening_is = ap (λ (x : Sat V O R T). opening_in x.0) e ∙ k.opening_is;
           sized = k.sized;
           trustee = ap (λ (x : Sat V O R T). x.0.trustee) e ∙ k.trustee;
+          plain = ap (λ (x : Sat V O R T). x.0.note) e ∙ k.plain;
           down = ap (λ (x : Sat V O R T). x.0.up) e;
           nothing = ap (λ (x : Sat V O R T). x.1) e;
           count = count ∙ k.count;
@@ -190,7 +190,7 @@ module _ {V O R T : Type 0} where
     pub in_table : (side : SharedTrustee V O R T) (c : ℕ) → IsTrusteeOf kind table side → c < place_count (opening_at table).setup → c < (id_of table).slots
     in_table side c k lt = subst (λ n. c < n) (sym k.sized.slots) lt
 
-    pub in_table_hand : (side : SharedTrustee V O R T) (c : ℕ) (hand : Hand V O R T) → IsTrusteeOf kind table side → hand_of (trustee_at side) c ≡ Some hand → c < (id_of table).slots
+    pub in_table_hand : (side : SharedTrustee V O R T) (c : ℕ) (hand : BatchView V O R T) → IsTrusteeOf kind table side → hand_of (trustee_at side) c ≡ Some hand → c < (id_of table).slots
     in_table_hand side c hand k has = in_table side c k (subst (λ n. c < n) k.good.hands (hand_below (trustee_at side) c hand has))
 
     pub word_at : (side : SharedTrustee V O R T) (c found : ℕ) → IsTrusteeOf kind table side → c < (id_of table).slots → found ≡ slice_index_or side.words.items c found
@@ -201,7 +201,7 @@ module _ {V O R T : Type 0} where
         → HasTaken kind (opening_in (trustee_knows side)) c batch (trustee_knows side).past.items past
         → hand_of (trustee_in past) c ≡ Some (record { requests = batch.requests.items; room = batch.room })
     taken_hand side c batch past k lt h =
-        ap (λ (l : List (RustOption (Hand V O R T))). slice_index_or l c None) h.takes.hands
+        ap (λ (l : List (RustOption (BatchView V O R T))). slice_index_or l c None) h.takes.hands
         ∙ get_or-set_same (trustee_at side).hands c (Some (record { requests = batch.requests.items; room = batch.room })) None
         (subst (λ n. c < n) (k.sized.slots ∙ sym k.good.hands) lt)
 
@@ -216,3 +216,12 @@ module _ {V O R T : Type 0} where
               (get_or-set_same side.words.items c word 0 (subst (λ n. c < n) (sym k.count) lt) ∙ flip ∙ sym (flips (replies (trustee_knows side).past.items c)) ∙ ap bit (sym h.word))
           | inr ne ↦ get_or-set_other side.words.items c d word 0 ne ∙ k.words d l ∙ ap bit (sym (h.words d ne))
         ]
+
+-- the slot that a seat took last
+first_or : {A : Type 0} → A → List (ℕ × A) → A
+first_or d [] = d
+first_or d (x ∷ xs) = x.1
+
+pub same_first : {A : Type 0} (l : List (ℕ × A)) (k j : ℕ) (x y : A) (more more' : List (ℕ × A)) → l ≡ (k, x) ∷ more → l ≡ (j, y) ∷ more' → x ≡ y
+unfolding first_or
+same_first l k j x y more more' e e' = ap (first_or x) (sym e ∙ e')

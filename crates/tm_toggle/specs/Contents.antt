@@ -1,5 +1,6 @@
 -- What stands in a slot.
 use Rattle.std.specs.Prelude.{◌≡◌, [], reverse}
+use Rattle.std.proofs.Math.ListN.{replicate}
 use Rattle.tm_batch.specs.declared.batch.Batch.{Batch}
 use Rattle.tm_batch.specs.declared.message.AnswerBatch.{AnswerBatch}
 use Rattle.tm_toggle.specs.declared.content.Content.{Content}
@@ -29,3 +30,15 @@ module _ {V O R T : Type 0} where
   -- nothing stands there
   abbrev pub IsClear : Content V O R T → Type 0
   IsClear y = HasNoRequests y × HasNoAnswers y
+
+  -- a slot at first
+  abbrev pub no_content : Content V O R T
+  no_content = record {
+    front = 0;
+    room = 0;
+    requests = record { items = [] };
+    answers = record { items = [] };
+    gifts = record { items = [] };
+    completions = record { items = [] };
+    apart = replicate 16 0;
+  }

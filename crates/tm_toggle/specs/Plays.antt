@@ -1,5 +1,6 @@
 -- What each step tells: of the step, the seat before, the number found and the seat after.
 use Rattle.std.specs.Prelude.{◌≡◌, ◌≢◌, ℕ, ◌+◌, ◌<◌, ◌⊎◌, Bool, true, false, not, List, [], ◌∷◌}
+use Rattle.std.specs.declared.option.Option.TheVariants.{None, Some}
 use Rattle.atomic_table.specs.Table.{Me, Step, rest}
 use Rattle.tm_seq.specs.Kind.{Kind}
 use Rattle.tm_batch.specs.declared.batch.Batch.{Batch}
@@ -9,7 +10,7 @@ use Rattle.tm_model.specs.State.{State}
 use Rattle.tm_model.specs.Slots.{slot_of}
 use Rattle.tm_pair.specs.Calls.{Publishes, Collects, SeesNothing, Takes, HasAnswered}
 use Rattle.tm_pair.specs.Sides.{IsGoodClient, IsGoodTrustee}
-use Rattle.tm_pair.specs.Moves.{core_after, answer_of}
+use Rattle.tm_pair.specs.Moves.{core_after, answer_of, answers_found}
 use Rattle.tm_pair.specs.declared.moves.Move.{Move}
 use Rattle.tm_pair.specs.declared.moves.Move.TheVariants.{Open, Publish, See, Collect}
 use Rattle.tm_pair.specs.declared.table.Collected.{Collected}
@@ -60,19 +61,19 @@ module _ {V O R T : Type 0} (kind : Kind V O R T) (opening : State V O R T) wher
 
   pub record HasCollected (c : ℕ) (found : Collected V O R T) (old new : List (Move V O R T)) : Type 0 where
     pub collects : Collects (client_in c old) (client_in c new) found
-    pub next : IsNext (IsByClient c) old new (Collect c)
+    pub next : IsNext (IsByClient c) old new (Collect c (answers_found found))
     pub word : asks new c ≡ asks old c
     pub good : IsGoodClient kind opening (client_in c new)
 
   pub record HasMissed (c : ℕ) (old new : List (Move V O R T)) : Type 0 where
     pub sees : SeesNothing c (trustee_in old) (trustee_in new)
-    pub next : IsNext IsByTrustee old new (See c)
+    pub next : IsNext IsByTrustee old new (See c None)
     pub words : (d : ℕ) → replies new d ≡ replies old d
     pub good : IsGoodTrustee kind opening (trustee_in new)
 
   pub record HasTaken (c : ℕ) (batch : Batch V O R T) (old new : List (Move V O R T)) : Type 0 where
     pub takes : Takes kind opening c batch.requests.items batch.room (trustee_in old) (trustee_in new)
-    pub next : IsNext IsByTrustee old new (See c)
+    pub next : IsNext IsByTrustee old new (See c (Some batch))
     pub words : (d : ℕ) → replies new d ≡ replies old d
     pub good : IsGoodTrustee kind opening (trustee_in new)
 

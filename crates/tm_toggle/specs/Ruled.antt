@@ -10,12 +10,12 @@ use Rattle.tm_seq.specs.Kind.{Kind}
 use Rattle.tm_model.specs.State.{State}
 use Rattle.tm_model.specs.Opening.{opening_of}
 use Rattle.tm_model.specs.Lists.{IsPrefix}
-use Rattle.tm_model.specs.Slots.{Empty, Asked, Taken, Answered, no_slot, slot_of}
+use Rattle.tm_model.specs.Slots.{Empty, Asked, Taken, Answered, no_slot, slot_of, first_core}
 use Rattle.tm_model.specs.Good.{FullBox, FullCore, IsGood}
 use Rattle.tm_model.specs.Laws.{IsOpening}
 use Rattle.tm_pair.specs.Views.{ClientView, TrusteeView}
-use Rattle.tm_pair.specs.Stands.{client_of, trustee_of}
-use Rattle.tm_pair.specs.Moves.{core_after}
+use Rattle.tm_pair.specs.SideViews.{client_of, trustee_of}
+use Rattle.tm_pair.specs.Moves.{MayCome, after_move, core_after}
 use Rattle.tm_pair.specs.declared.moves.Move.{Move}
 use Rattle.tm_pair.specs.declared.moves.Move.TheVariants.{Open, Publish, See, Answer, Collect}
 use Rattle.tm_toggle.specs.Contents.{batch_in, answers_in, HasNoRequests, HasNoAnswers, IsClear}
@@ -55,18 +55,18 @@ module _ {V O R T : Type 0} where
   -- a call is one of the client of place c
   abbrev pub IsByClient : ℕ → Move V O R T → Type 0
   IsByClient c (Publish d batch) = d ≡ c
-  IsByClient c (Collect d) = d ≡ c
+  IsByClient c (Collect d found) = d ≡ c
   IsByClient c (Open places) = ⊥
-  IsByClient c (See d) = ⊥
+  IsByClient c (See d found) = ⊥
   IsByClient c (Answer d resumes a) = ⊥
 
   -- a call is one of the trustee
   abbrev pub IsByTrustee : Move V O R T → Type 0
   IsByTrustee (Open places) = Unit {0}
-  IsByTrustee (See d) = Unit {0}
+  IsByTrustee (See d found) = Unit {0}
   IsByTrustee (Answer d resumes a) = Unit {0}
   IsByTrustee (Publish d batch) = ⊥
-  IsByTrustee (Collect d) = ⊥
+  IsByTrustee (Collect d found) = ⊥
 
   -- calls of others
   abbrev pub AreOfOthers : (Move V O R T → Type 0) → List (Move V O R T) → Type 0
@@ -79,6 +79,11 @@ module _ {V O R T : Type 0} where
   -- the next call of a side, after some of others
   abbrev pub IsNext : (Move V O R T → Type 0) → List (Move V O R T) → List (Move V O R T) → Move V O R T → Type 0
   IsNext Own old new move = (others : List (Move V O R T)) × (new ≡ old ++ others ++ move ∷ []) × AreOfOthers Own others
+
+  -- calls one after the other, each of which may come at the core that those before it left
+  abbrev pub HaveCome : List (Move V O R T) → FullCore V O R T → Type 0
+  HaveCome [] core = Unit {0}
+  HaveCome (move ∷ moves) core = MayCome move core × HaveCome moves (after_move move core)
 
   -- what stands in the slot of a box
   abbrev pub IsIn : Content V O R T → FullBox V O R T → Type 0
@@ -151,6 +156,7 @@ module _ {V O R T : Type 0} where
   pub record Stands (kind : Kind V O R T) (opening : State V O R T) (core : FullCore V O R T) (k : Course V O R T)
       (s : TableState (Content V O R T) (View V O R T)) : Type 0 where
     pub opens : IsOpening opening
+    pub calls : HaveCome k.past (first_core 0)
     pub good : IsGood kind opening core
     pub places : length core.slots ≡ length s.homes
     pub wide : length s.words ≡ 32 * length s.homes + 48

@@ -1,6 +1,6 @@
 //! What stands in a slot, in arrays that stay there.
 ghost use Rattle.std.specs.Prelude.{◌≡◌, [], reverse};
-ghost use Rattle.tm_toggle.specs.Contents.{batch_in, answers_in, HasNoRequests, HasNoAnswers};
+ghost use Rattle.tm_toggle.specs.Contents.{batch_in, answers_in, HasNoRequests, HasNoAnswers, no_content};
 
 use arrayvec::ArrayVec;
 use tm_batch::{Answer, AnswerBatch, Batch, Completion, Name, Request, Room};
@@ -39,8 +39,7 @@ impl<S: FitsBatches> Drop for Content<S> {
 impl<S: FitsBatches> Content<S> {
     /// Nothing.
     pub(crate) fn new() -> Content<S>
-        ensures requests { HasNoRequests result }
-        ensures answers { HasNoAnswers result }
+        ensures { result ≡ no_content }
     {
         Content {
             front: 0,

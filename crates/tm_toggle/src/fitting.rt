@@ -1,7 +1,7 @@
 //! Kinds whose slots fit in memory.
 ghost use Rattle.std.specs.Mem.{FitsInMemory};
 ghost use Rattle.std.proofs.Common.{lit<};
-ghost use Rattle.tm_toggle.specs.contracts.view.Content.{the_row as content_row};
+ghost use Rattle.tm_toggle.specs.contracts.content.Content.{the_row as content_row};
 ghost use Rattle.tm_toggle.specs.contracts.view.View.{the_row as view_row};
 
 use tm_pair::FitsBatches;

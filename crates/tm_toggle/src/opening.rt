@@ -3,15 +3,17 @@ ghost use Rattle.std.specs.Prelude.{◌≡◌, ◌+◌, ◌<◌, [], IfOk, repli
 ghost use Rattle.std.specs.Arc.{arc_value};
 ghost use Rattle.tm_model.specs.Opening.{IsBuildable, opening_of};
 ghost use Rattle.tm_toggle.specs.Ruled.{opening_by};
-ghost use Rattle.tm_toggle.specs.Shared.{IsSized};
-ghost use Rattle.tm_toggle.specs.Opened.{maker, IsFirstSide, IsOpened};
-ghost use Rattle.tm_toggle.specs.declared.view.Content.TheVariants.{Empty};
+ghost use Rattle.tm_pair.specs.Theory.{IsNewTable};
+ghost use Rattle.tm_toggle.specs.Shared.{IsSized, IsSame, shared_theory};
+ghost use Rattle.tm_toggle.specs.Opened.{maker, IsFirstSide};
+ghost use Rattle.tm_toggle.specs.Contents.{no_content};
 
 use crate::fitting::Shareable;
 use crate::ruling::{Makes, Order, Settles};
 use crate::shared::SharedTable;
 use crate::sides::{Key, SharedClient, SharedTrustee};
-use crate::view::{Content, View};
+use crate::content::Content;
+use crate::view::View;
 use atomic_table::{Seat, Table};
 use std::alloc::{AllocError, Global};
 use std::marker::Brand;
@@ -30,7 +32,7 @@ impl<S: Shareable> SharedTable<S> {
     ) -> Result<(SharedTable<S>, Vec<SharedClient<S>>, SharedTrustee<S>), AllocError>
         requires buildable { IsBuildable config first.now.items }
         requires number { number < config.trustees }
-        ensures { IfOk result (λ r. IsOpened S.kind (opening_of number config first.now.items) r.0 r.1.items r.2) }
+        ensures { IfOk result (λ r. IsNewTable (shared_theory S.kind) (opening_of number config first.now.items) r.0 r.1.items r.2) }
     {
         let places = config.clients + number;
         let count = places as usize;
@@ -62,7 +64,7 @@ impl<S: Shareable> SharedTable<S> {
 
     /// The same table, for another thread.
     pub fn share(&self) -> Result<SharedTable<S>, AllocError>
-        ensures { IfOk result (λ table. arc_value table.table ≡ arc_value self.now.table) }
+        ensures { IfOk result (λ table. IsSame self.now table) }
     {
         Ok(SharedTable {
             table: Arc::try_clone(&self.table)?,
@@ -72,11 +74,11 @@ impl<S: Shareable> SharedTable<S> {
 
 /// Slots at first.
 fn empties<S: Shareable>(alloc: Global, count: usize) -> Result<Vec<Content<S>>, AllocError>
-    ensures { IfOk result (λ v. v.items ≡ replicate count Empty) }
+    ensures { IfOk result (λ v. v.items ≡ replicate count no_content) }
 {
     let mut slots = Vec::with_capacity(alloc, count)?;
     for _ in 0..count {
-        slots.push_reserved(Content::Empty);
+        slots.push_reserved(Content::new());
     }
     Ok(slots)
 }

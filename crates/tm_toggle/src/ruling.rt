@@ -3,7 +3,8 @@ ghost use Rattle.tm_toggle.specs.Ruled.{opening_by, Delegates};
 ghost use Rattle.tm_toggle.specs.Plays.{first_view, publishes, collects, sees, lays, lifts, answers, settles, with_client, new_client};
 
 use crate::sides::Key;
-use crate::view::{Content, View};
+use crate::content::Content;
+use crate::view::View;
 use atomic_table::{Play, Split, TableRule};
 use std::marker::PhantomData;
 use tm_pair::{Since, FitsBatches};

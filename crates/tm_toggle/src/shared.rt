@@ -1,24 +1,32 @@
 //! A table for many threads.
-ghost use Rattle.std.specs.Prelude.{◌≡◌, ◌≢◌, ◌<◌, MatchOption, IsOk, OnOk, OnErr, IfErr, ◌↔◌};
+ghost use Rattle.std.specs.Prelude.{◌≡◌, ◌<◌, MatchOption, IsOk, OnOk, OnErr, IfErr, ◌↔◌};
 ghost use Rattle.std.specs.declared.option.Option.TheVariants.{None};
-ghost use Rattle.tm_model.specs.State.{State, place_count};
+ghost use Rattle.tm_model.specs.State.{place_count};
 ghost use Rattle.tm_pair.specs.Views.{hand_of};
 ghost use Rattle.tm_pair.specs.Calls.{MaySend, Publishes, Collects, OnLook, SeesNothing, Takes, MayAnswer, HasAnswered};
-ghost use Rattle.tm_toggle.specs.Shared.{opening_at, client_at, trustee_at, IsClientOf, IsTrusteeOf};
-ghost use Rattle.tm_toggle.specs.declared.sides.SharedClient.{SharedClient};
-ghost use Rattle.tm_toggle.specs.declared.sides.SharedTrustee.{SharedTrustee};
+ghost use Rattle.tm_pair.specs.Moves.{answer_of};
+ghost use Rattle.tm_pair.specs.Theory.{KeepsSides, KeepsClients};
+ghost use Rattle.tm_pair.specs.declared.moves.Move.TheVariants.{Publish, See, Collect};
+ghost use Rattle.tm_toggle.specs.Ruled.{IsByClient, IsByTrustee, IsNext};
+ghost use Rattle.tm_toggle.specs.Shared.{opening_at, client_at, trustee_at, client_past, trustee_past, IsClientOf, IsTrusteeOf, shared_theory, shared_laws};
 
+use crate::content::Content;
 use crate::fitting::Shareable;
 use crate::ruling::{AnswerStep, CollectStep, Lays, Lifts, Order, PublishStep, SeeStep};
 use crate::sides::{Key, SharedClient, SharedTrustee};
-use crate::view::{Content, View};
+use crate::view::View;
 use atomic_table::Table;
 use std::alloc::Global;
 use std::sync::Arc;
 use tm_batch::{AnswerBatch, Batch};
 use tm_pair::{Collected, Held, PairTable, Since};
 
-/// A trustee's table for many threads: each thread has a handle of its own.
+/// A trustee's table for many threads: each thread has a handle of its own, and no call waits, locks
+/// or allocates.
+///
+/// Its rule is [`Order`]: between any two atomic steps one list of calls tells all words, all slots
+/// and what each side stands for, and the core that it leaves is good. Each call takes its place in
+/// that list by one atomic step.
 pub struct SharedTable<S: Shareable> {
     pub(crate) table: Arc<Table<Content<S>, View<S>, Key<S>, Order<S>, Global>>,
 }
@@ -35,18 +43,9 @@ impl<S: Shareable> PairTable<S> for SharedTable<S> {
 
     type TrusteeSide = SharedTrustee<S>;
 
-    ghost opening = { λ table. opening_at table };
+    ghost theory = { shared_theory S.kind };
 
-    ghost client_view = { λ side. client_at side };
-
-    ghost trustee_view = { λ side. trustee_at side };
-
-    ghost HasClient = { λ table side. IsClientOf S.kind table side };
-
-    ghost HasTrustee = { λ table side. IsTrusteeOf S.kind table side };
-
-    ghost Moved = { λ move old new. Unit {0} };
-
+    /// One store, and the requests of the batch. It is the side's next call at the table.
     fn publish(&mut self, side: &mut SharedClient<S>, batch: Batch<S>) -> Result<(), Held<S>>
         requires mine { IsClientOf S.kind self.old side.old }
         requires orderly { MaySend (opening_at self.old) (client_at side.old) batch.requests.items }
@@ -54,12 +53,10 @@ impl<S: Shareable> PairTable<S> for SharedTable<S> {
         ensures ok { OnOk result (Publishes batch.requests.items batch.room (client_at side.old) (client_at side.new)) }
         ensures err { OnErr result (client_at side.new ≡ client_at side.old) }
         ensures back { IfErr result (λ held. held.0 ≡ batch) }
-        ensures moved { OnOk result (Unit {0}) }
+        ensures did { OnOk result (Unit {0}) }
         ensures stays { OnErr result (self.new ≡ self.old) }
-        ensures opening { opening_at self.new ≡ opening_at self.old }
-        ensures mine { IsClientOf S.kind self.new side.new }
-        ensures clients { (other : SharedClient S S.Op S.Reply S.Task) → (client_at other).place ≢ (client_at side.old).place → IsClientOf S.kind self.old other → IsClientOf S.kind self.new other }
-        ensures trustee { (other : SharedTrustee S S.Op S.Reply S.Task) → IsTrusteeOf S.kind self.old other → IsTrusteeOf S.kind self.new other }
+        ensures keeps { KeepsSides (shared_theory S.kind) self.old self.new side.old side.new }
+        ensures next { OnOk result (IsNext (IsByClient (client_at side.old).place) (client_past side.old) (client_past side.new) (Publish (client_at side.old).place batch)) }
     {
         if side.out {
             return Err(Held(batch));
@@ -68,21 +65,20 @@ impl<S: Shareable> PairTable<S> for SharedTable<S> {
         let shared = &self.table.shared;
         let place = side.place as usize;
         let word = 1 - side.word;
-        *side.seat.slot_mut(shared, place) = Content::Asked(batch);
+        side.seat.slot_mut(shared, place).put_batch(batch);
         shared.store::<PublishStep<S>>(&mut side.seat, 32 * place + 16, word);
         side.word = word;
         side.out = true;
         Ok(())
     }
 
+    /// One load, and the answers. Where it looks, it is the side's next call at the table.
     fn collect(&mut self, side: &mut SharedClient<S>) -> Collected<S>
         requires mine { IsClientOf S.kind self.old side.old }
         ensures collects { Collects (client_at side.old) (client_at side.new) result }
-        ensures moved { OnLook result (self.new ≡ self.old) (Unit {0}) }
-        ensures opening { opening_at self.new ≡ opening_at self.old }
-        ensures mine { IsClientOf S.kind self.new side.new }
-        ensures clients { (other : SharedClient S S.Op S.Reply S.Task) → (client_at other).place ≢ (client_at side.old).place → IsClientOf S.kind self.old other → IsClientOf S.kind self.new other }
-        ensures trustee { (other : SharedTrustee S S.Op S.Reply S.Task) → IsTrusteeOf S.kind self.old other → IsTrusteeOf S.kind self.new other }
+        ensures did { OnLook result (self.new ≡ self.old) (λ found. Unit {0}) }
+        ensures keeps { KeepsSides (shared_theory S.kind) self.old self.new side.old side.new }
+        ensures next { OnLook result (client_past side.new ≡ client_past side.old) (λ found. IsNext (IsByClient (client_at side.old).place) (client_past side.old) (client_past side.new) (Collect (client_at side.old).place found)) }
     {
         if !side.out {
             return Collected::Idle;
@@ -93,23 +89,20 @@ impl<S: Shareable> PairTable<S> for SharedTable<S> {
         if found != side.word {
             return Collected::Pending;
         }
-        let Content::Answered(answers) = shared.exchange(&mut side.seat, place, Content::Empty)
-        else {
-            unreachable!()
-        };
         side.out = false;
-        Collected::Answers(answers)
+        Collected::Answers(side.seat.slot_mut(shared, place).take_answers())
     }
 
+    /// One load where nothing is asked; else two, and the requests of the batch. It is the trustee's
+    /// next call at the table.
     fn see(&mut self, side: &mut SharedTrustee<S>, client: u32) -> Option<Batch<S>>
         requires mine { IsTrusteeOf S.kind self.old side.old }
         requires in_range { client < place_count (opening_at self.old).setup }
         requires free { hand_of (trustee_at side.old) client ≡ None }
         ensures sees { MatchOption result (SeesNothing client (trustee_at side.old) (trustee_at side.new)) (λ b. Takes S.kind (opening_at self.old) client b.requests.items b.room (trustee_at side.old) (trustee_at side.new)) }
-        ensures moved { Unit {0} }
-        ensures opening { opening_at self.new ≡ opening_at self.old }
-        ensures mine { IsTrusteeOf S.kind self.new side.new }
-        ensures clients { (other : SharedClient S S.Op S.Reply S.Task) → IsClientOf S.kind self.old other → IsClientOf S.kind self.new other }
+        ensures did { Unit {0} }
+        ensures keeps { KeepsClients (shared_theory S.kind) self.old self.new side.new }
+        ensures next { IsNext IsByTrustee (trustee_past side.old) (trustee_past side.new) (See client result) }
     {
         let shared = &self.table.shared;
         let client = client as usize;
@@ -117,13 +110,12 @@ impl<S: Shareable> PairTable<S> for SharedTable<S> {
         if found == side.words[client] {
             return None;
         }
-        let Content::Asked(batch) = shared.exchange(&mut side.seat, client, Content::Empty) else {
-            unreachable!()
-        };
+        let batch = side.seat.slot_mut(shared, client).take_batch();
         shared.load::<Lays>(&mut side.seat, 32 * client + 32);
         Some(batch)
     }
 
+    /// One load and one store, and the answers. It is the trustee's next call at the table.
     fn answer<E: Since<S, S::Op, S::Reply, S::Task>>(
         &mut self,
         side: &mut SharedTrustee<S>,
@@ -133,21 +125,18 @@ impl<S: Shareable> PairTable<S> for SharedTable<S> {
         requires mine { IsTrusteeOf S.kind self.old side.old }
         requires may { MayAnswer S.kind (opening_at self.old) client E.resumes answers (trustee_at side.old) }
         ensures answers { HasAnswered client E.resumes answers (trustee_at side.old) (trustee_at side.new) }
-        ensures moved { Unit {0} }
-        ensures opening { opening_at self.new ≡ opening_at self.old }
-        ensures mine { IsTrusteeOf S.kind self.new side.new }
-        ensures clients { (other : SharedClient S S.Op S.Reply S.Task) → IsClientOf S.kind self.old other → IsClientOf S.kind self.new other }
+        ensures did { Unit {0} }
+        ensures keeps { KeepsClients (shared_theory S.kind) self.old self.new side.new }
+        ensures next { IsNext IsByTrustee (trustee_past side.old) (trustee_past side.new) (answer_of client E.resumes answers) }
     {
         let shared = &self.table.shared;
         let client = client as usize;
         let word = 1 - side.words[client];
         shared.load::<Lifts>(&mut side.seat, 32 * client + 32);
-        *side.seat.slot_mut(shared, client) = Content::Answered(answers);
+        side.seat.slot_mut(shared, client).put_answers(answers);
         shared.store::<AnswerStep<S, E>>(&mut side.seat, 32 * client + 32, word);
         side.words[client] = word;
     }
 
-    ghost client_is_good = { λ table side mine. mine.good };
-
-    ghost trustee_is_good = { λ table side mine. mine.good };
+    ghost laws = { shared_laws S.kind };
 }

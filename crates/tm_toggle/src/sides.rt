@@ -1,10 +1,11 @@
 //! The sides of a table for many threads.
 
+use crate::content::Content;
 use crate::fitting::Shareable;
-use crate::view::{Content, View};
+use crate::view::View;
 use atomic_table::Seat;
-use tm_ghost::GhostList;
 use tm_batch::{Config, First};
+use tm_ghost::GhostList;
 use tm_pair::FitsBatches;
 
 /// How a table was built.
@@ -15,7 +16,8 @@ pub struct Key<S: FitsBatches> {
     pub(crate) first: GhostList<First<S>>,
 }
 
-/// A client's side.
+/// A client's side of a [`SharedTable`](crate::SharedTable): a seat that knows what the side stands
+/// for, the request word, and whether a batch is out.
 pub struct SharedClient<S: Shareable> {
     pub(crate) seat: Seat<Content<S>, View<S>>,
     pub(crate) place: u32,
@@ -23,7 +25,8 @@ pub struct SharedClient<S: Shareable> {
     pub(crate) out: bool,
 }
 
-/// The trustee's side.
+/// The trustee's side of a [`SharedTable`](crate::SharedTable): a seat that knows what the side
+/// stands for, and the response words.
 pub struct SharedTrustee<S: Shareable> {
     pub(crate) seat: Seat<Content<S>, View<S>>,
     pub(crate) words: Vec<u64>,
@@ -41,6 +44,7 @@ impl<S: Shareable> Drop for SharedClient<S> {
     }
 }
 
+/// As a derived one, but proved here.
 impl<S: Shareable> Drop for SharedTrustee<S> {
     fn drop(self) {
         let SharedTrustee { seat: _, words: _ } = self;

@@ -14,7 +14,7 @@ push_reserved-requires g c =
 pub loop-preserved : goal.loop-preserved
 loop-preserved g c =
     let empty = empty_of g.row.S.Denot g.row.S-Op.Denot g.row.S-Reply.Denot g.row.S-Task.Denot in
-    (c.push_reserved.ensures.items ∙ ap (λ l. l ++ empty ∷ []) c.loop.invariant.0 ∙ snoc c.loop.counter empty, search rules)
+    (c.push_reserved.ensures.items ∙ (λ j. c.loop.slots.items ++ c.new.ensures j ∷ []) ∙ ap (λ l. l ++ empty ∷ []) c.loop.invariant.0 ∙ snoc c.loop.counter empty, search rules)
 
 pub returns : goal.returns
 returns g c =

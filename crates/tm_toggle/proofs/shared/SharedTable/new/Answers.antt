@@ -5,11 +5,13 @@ use Rattle.tm_model.specs.Opening.{IsBuildable, opening_of}
 use Rattle.tm_model.specs.State.{place_count}
 use Rattle.tm_toggle.specs.Ruled.{opening_by}
 use Rattle.tm_toggle.specs.Plays.{Sat, first_view}
-use Rattle.tm_toggle.specs.Shared.{IsSized, id_of}
-use Rattle.tm_toggle.specs.Opened.{IsOpened, maker, AreFirstSides}
+use Rattle.tm_toggle.specs.Shared.{IsSized, id_of, shared_theory}
+use Rattle.tm_pair.specs.Theory.{IsNewTable}
+use Rattle.tm_toggle.specs.Opened.{maker, AreFirstSides}
 use Rattle.tm_toggle.specs.declared.sides.Key.{Key}
 use Rattle.tm_toggle.specs.declared.shared.SharedTable.{SharedTable}
-use Rattle.tm_toggle.proofs.Starting.{starts, no_sides, one_more_side, is_opened, empty_of}
+use Rattle.tm_toggle.proofs.Starting.{starts, empty_of}
+use Rattle.tm_toggle.proofs.NewTables.{no_sides, one_more_side, is_new}
 use Rattle.tm_toggle.proofs.shared.SharedTable.new.Goals as goal
 
 pub new-requires : goal.new-requires
@@ -69,12 +71,12 @@ returns g c =
     let count : length c.loop-place.clients.items ≡ n = sym c.loop-place.clients.ok.0 ∙ i.count ∙ done in
     let ids : id_of t ≡ c.in-Ok.table.shared.table_id = ap (λ x. x.shared.table_id) arc in
     let keys : (arc_value c.in_ok-table.table).shared.key ≡ key = ap (λ x. x.shared.key) arc ∙ keyed in
-    let opened = is_opened g.S.Entrusted.kind t key keys (subst (λ l. IsBuildable c.args.config l) (sym c.told.ensures) c.requires.buildable) c.requires.number
+    let opened = is_new g.S.Entrusted.kind t key keys (subst (λ l. IsBuildable c.args.config l) (sym c.told.ensures) c.requires.buildable) c.requires.number
     (subst (λ x. IsSized (opening_by key) x) (sym ids) (subst (λ k. IsSized (opening_by k) c.in-Ok.table.shared.table_id) keyed i.sized))
     c.loop-place.clients.items (record { seat = c.loop-place.seat; words = c.in_ok-replied.replied }) c.loop-place.place count
     (subst (λ x. AreFirstSides key x c.loop-place.clients.items) (sym ids) (subst (λ k. AreFirstSides k c.in-Ok.table.shared.table_id c.loop-place.clients.items) keyed i.sides))
     (i.same ∙ sym ids)
     (i.me ∙ ap (λ (k : Key g.row.S.Denot g.row.S-Op.Denot g.row.S-Reply.Denot g.row.S-Task.Denot). (maker k c.loop-place.place, [])) keyed)
     (c.in_ok-replied.ensures.items_if_clones_equal (λ y h. h)) c.in_ok-replied.ensures.len in
-    subst (λ l. IsOpened g.S.Entrusted.kind (opening_of c.args.number c.args.config l) t c.loop-place.clients.items (record { seat = c.loop-place.seat; words = c.in_ok-replied.replied }))
+    subst (λ l. IsNewTable (shared_theory g.S.Entrusted.kind) (opening_of c.args.number c.args.config l) t c.loop-place.clients.items (record { seat = c.loop-place.seat; words = c.in_ok-replied.replied }))
     c.told.ensures opened
