@@ -106,7 +106,7 @@ impl<S: Entrusted> Batch<S> {
         self.room.gifts()
     }
 
-    /// Takes the first request out, if there is one.
+    /// Takes the first request out, if there is one, and moves the others one place down.
     pub fn take_first(&mut self) -> Option<Request<S>>
         ensures first { MatchOption result ((self.old.requests.items ≡ []) × (self.new ≡ self.old)) (λ r. self.old.requests.items ≡ r ∷ self.new.requests.items) }
         ensures room { self.new.room ≡ self.old.room }

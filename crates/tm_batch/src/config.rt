@@ -9,13 +9,14 @@ use std::marker::Model;
 /// trustee of a greater number.
 #[derive(Debug, Clone, Copy, PartialEq, Eq)]
 pub struct Config {
-    /// The number of clients, 1 to 64.
+    /// The number of clients, 1 to [`MOST_CLIENTS`](crate::MOST_CLIENTS).
     pub clients: u32,
-    /// The number of trustees, 2 to 32.
+    /// The number of trustees, [`FEWEST_TRUSTEES`](crate::FEWEST_TRUSTEES) to
+    /// [`MOST_TRUSTEES`](crate::MOST_TRUSTEES).
     pub trustees: u32,
-    /// The most objects that are live at one trustee, 1 to 4,096.
+    /// The most objects that are live at one trustee, 1 to [`MOST_OBJECTS`](crate::MOST_OBJECTS).
     pub objects: u32,
-    /// The most trusts that one client holds, 1 to 4,096.
+    /// The most trusts that one client holds, 1 to [`MOST_TRUSTS`](crate::MOST_TRUSTS).
     pub trusts: u32,
     /// The greatest id and the greatest ticket that a trustee gives out, at least 1.
     pub last_id: u64,

@@ -1,7 +1,11 @@
 //! What passes between a client and a trustee: requests, answers, and batches of them.
 //!
-//! A client sends a [`Batch`] of at most 16 requests, and gets one [`AnswerBatch`] back. All of it
-//! is held inline, and nothing here allocates.
+//! A client sends a [`Batch`] of at most [`MOST_REQUESTS`] requests, and gets one [`AnswerBatch`]
+//! back. All of it is held inline, so a batch has its full size however few requests are in it, and
+//! nothing here allocates or waits.
+//!
+//! A kind whose batches are passed on implements [`Fits`], and one that makes a kind with another
+//! before it [`FitsBeside`]: facts on sizes, which are computed.
 #![tactic(auto)]
 
 mod batch;

@@ -12,7 +12,8 @@ pub(crate) const MOST_LEAVING: usize = MOST_ROOM as usize;
 /// How many completions leave with the answers to a batch at most.
 pub const MOST_COMPLETIONS: usize = 16;
 
-/// How many requests of a client count at a trustee at most, and how many of its launches lack their completion.
+/// How many requests of a client count at a trustee at most, and how many of its launches lack their
+/// completion.
 pub const WINDOW: usize = 64;
 
 /// How many gifts wait for a place at most.

@@ -88,11 +88,12 @@ pub struct AnswerBatch<S: Entrusted> {
     /// The length of the trustee's log after the entries of this batch, or `u64::MAX` where that is
     /// greater.
     pub front: u64,
-    /// One answer for each request, in order.
+    /// One answer for each request, in order, at most [`MOST_REQUESTS`].
     pub answers: ArrayVec<Answer<S>, MOST_REQUESTS>,
-    /// The gifts that waited longest, as many as the batch had room for.
+    /// The gifts that waited longest, as many as the batch had room for, at most
+    /// [`MOST_ROOM`](crate::MOST_ROOM).
     pub gifts: ArrayVec<Name, MOST_LEAVING>,
-    /// The completions that waited longest.
+    /// The completions that waited longest, at most [`MOST_COMPLETIONS`].
     pub completions: ArrayVec<Completion<S>, MOST_COMPLETIONS>,
 }
 

@@ -6,10 +6,11 @@ use crate::config::{First, Holders};
 use crate::fits::FitsAnswers;
 use crate::message::{Answer, AnswerBatch, Completion, Name, Request};
 use std::test::Fail;
-use tm_seq::{Counter, CounterOp, CounterReply};
+use tm_seq::{Counter, CounterOp, CounterReply, Sum};
 
-/// An answer batch of any small kind.
+/// An answer batch of any kind whose answer batches fit.
 fn empty_answers<S: FitsAnswers>(front: u64) -> AnswerBatch<S>
+    ensures front { result.front ≡ front }
     ensures answers { result.answers.items ≡ [] }
     ensures gifts { result.gifts.items ≡ [] }
     ensures completions { result.completions.items ≡ [] }
@@ -50,6 +51,7 @@ fn answers_are_kept_in_order(rt: HostRuntime) {
     batch.gifts.push(Name { id: 1, place: 2 });
     batch.completions.push(Completion::default());
     assert_eq!(rt; batch.front, 7);
+    assert_eq!(rt; empty_answers::<Sum<Counter, Counter>>(8).front, 8);
     assert!(rt; matches!(batch.answers[0], Answer::Replied(CounterReply::Is(5))));
     assert!(rt; matches!(batch.answers[1], Answer::Granted));
     assert_eq!(rt; batch.gifts[0], Name { id: 1, place: 2 });

@@ -1,4 +1,4 @@
--- What an entry does where the object of an id is not live: it is not of that id, or it takes the object.
+-- An entry where the object of an id is not live: it is not of that id; an id that is not live and was given out stays so.
 use Rattle.std.proofs.Common.{◌≡◌, ◌≢◌, ℕ, ◌+◌, ◌-◌, ◌<◌, ◌≤◌, ◌⊎◌, true, false, not, cond, List, [], ◌∷◌, ◌++◌, map, slice_set, inl, inr, refl, sym, ◌∙◌, ap, subst, arith, eq-eqb, ne_eqb}
 use Rattle.std.specs.Prelude.{◌==◌}
 use Rattle.std.specs.Option.{IsSomeAnd}

@@ -1,7 +1,9 @@
--- The steps of the clients and a look of the trustee keep the core good.
+-- An orderly publish and a look of either side keep the core good: what each place holds and is owed stays accounted for.
+-- Other crates import from this file.
 use Rattle.std.proofs.Common.{◌≡◌, ℕ, ◌+◌, ◌<◌, ◌≤◌, true, List, [], ◌∷◌, ◌++◌, length, slice_index_or, slice_set, inl, inr, refl, sym, ◌∙◌, ap, subst, arith, get_or-set_same, get_or-set_other, length-set, append_assoc, append-nil, length-append}
 use Rattle.std.proofs.lemmas.Bool.{cases_eq}
 use Rattle.tm_seq.specs.Kind.{Kind}
+use Rattle.tm_batch.specs.declared.limits.TheConstants.{MOST_REQUESTS, MOST_ROOM, WINDOW}
 use Rattle.tm_batch.specs.declared.message.Request.{Request}
 use Rattle.tm_batch.specs.declared.message.Request.TheVariants.{Bye}
 use Rattle.tm_batch.specs.declared.message.AnswerBatch.{AnswerBatch}
@@ -149,7 +151,7 @@ module _ {V O R T : Type 0} where
   collect_accounted opening s c slot (Answered a upto room) looks log e was =
       let w = subst (λ (b : FullBox V O R T). IsAccounted opening c (record slot { box = b }) log s) e was in
       let longer : ended_in slot.got ≤ ended_in (slot.got ++ a ∷ []) = rw (ended_in-append slot.got (a ∷ [])) (omega arith) in
-      let window : launches_in slot.sent ≤ 64 + ended_in slot.got = w.window in
+      let window : launches_in slot.sent ≤ WINDOW + ended_in slot.got = w.window in
       let all : launches_in slot.sent ≡ 0 + unfinished c s.live + length (place_of s c).ready + ended_in (slot.got ++ a ∷ []) = w.launches in
       record {
         holds = w.holds;
@@ -198,7 +200,7 @@ module _ {V O R T : Type 0} where
 
   publish_accounted :
       (opening s : State V O R T) (c : ℕ) (slot : FullSlot V O R T) (b : List (Request V O R T)) (room : ℕ) (log : List (Entry V O R T))
-      → slot.box ≡ Empty → slot.sent ≡ ran c log → length (answers_in slot.got) ≤ length slot.sent → length b ≤ 16 → room ≤ 16
+      → slot.box ≡ Empty → slot.sent ≡ ran c log → length (answers_in slot.got) ≤ length slot.sent → length b ≤ MOST_REQUESTS → room ≤ MOST_ROOM
       → IsOrderly opening c slot.sent slot.got b → IsAccounted opening c slot log s → IsAccounted opening c (published b room slot) log s
   publish_accounted opening s c slot b room log e ran_is answered most most_gifts orderly was =
       let w = subst (λ (x : FullBox V O R T). IsAccounted opening c (record slot { box = x }) log s) e was in

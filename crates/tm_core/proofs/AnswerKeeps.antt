@@ -1,4 +1,4 @@
--- An answer keeps the slots good.
+-- An answer keeps the slots good: that of its own place, and those of others, whose log only grew.
 use Rattle.std.proofs.Common.{◌≡◌, ◌≢◌, ℕ, ◌+◌, ◌<◌, ◌≤◌, Bool, true, false, not, List, [], ◌∷◌, ◌++◌, length, inl, inr, refl, sym, ◌∙◌, ap, subst, arith, add-zero, zero-add, eq-eqb, length-append, append_assoc, append-nil}
 use Rattle.tm_model.specs.Slots.{Box, Empty, Asked, Taken, Answered, Slot, slot_of, answered}
 use Rattle.tm_model.specs.GoodSlots.{Mark, Ran, Left, Other, IsOf, IsRunOf, ran_by, left_by, IsSettled, IsLastBehind, Agrees, Reached, HasSeen, Shows, IsLate, IsGoodSlot, Adds, left_before, AnswerKeepsSlots}

@@ -1,4 +1,4 @@
--- What an entry does to the holds of a place on an id, and to the gifts that wait for it.
+-- A place's holds on an id, summed over the live objects, where a hold is granted, released or reclaimed or an object is added.
 use Rattle.std.proofs.Common.{◌≡◌, ◌≢◌, ℕ, ◌+◌, ◌-◌, ◌<◌, ◌≤◌, ◌⊎◌, true, false, cond, List, [], ◌∷◌, ◌++◌, length, slice_index_or, slice_set, sum, length-set, inl, inr, refl, sym, ◌∙◌, ap, arith, eq-eqb, ne_eqb, get_or-set_same, get_or-set_other, add-zero}
 use Rattle.std.specs.Prelude.{◌==◌}
 use Rattle.std.specs.declared.option.Option.TheVariants.{Some}
@@ -6,7 +6,7 @@ use Rattle.std.proofs.lemmas.Bool.{cases_eq, cases_lt}
 use Rattle.std.proofs.lemmas.List.{get_or_past}
 use Rattle.std.proofs.lemmas.List.Sums.{get_or-le-sum_by, sum_by-set}
 use Rattle.tm_model.specs.State.{Object, holds_of, with_holds, total, change, without, object_of, holds_in}
-use Rattle.tm_core.proofs.Every.{item_within}
+use Rattle.tm_core.proofs.CallerLemmas.{item_within}
 use Rattle.tm_core.proofs.Rising.{RisesTo, holds_sum, holds_are_sum, sum_change, sum_change_other, sum_changed}
 
 -- two places together hold no more than all

@@ -1,4 +1,5 @@
--- What a change of the live objects keeps of them: their bounds, and that each has a hold or an unfinished launch.
+-- What a change of the live objects keeps of them: holds of 32 bits, places and tickets in range, a hold or a launch, and ids that rise.
+-- Other crates import from this file.
 use Rattle.std.proofs.Common.{◌≡◌, ◌≢◌, ℕ, ◌+◌, ◌-◌, ◌^◌, ◌<◌, ◌≤◌, Bool, true, false, not, cond, List, [], ◌∷◌, ◌++◌, length, map, filter, slice_index_or, slice_set, sum, inl, inr, refl, sym, ◌∙◌, ap, subst, arith, eq-eqb, ne_eqb, length-set, length-append, get_or-set_same}
 use Rattle.std.specs.Prelude.{◌==◌, ◌||◌}
 use Rattle.std.specs.List.{AllByRecursion, range_with_len, list_any}
@@ -13,11 +14,12 @@ use Rattle.std.proofs.lemmas.List.{length-map}
 use Rattle.std.proofs.lemmas.List.Sums.{get_or-le-sum_by, length-filter, count_by-le-length}
 use Rattle.tm_seq.specs.declared.kind.Next.{Next}
 use Rattle.tm_seq.specs.declared.kind.Next.TheVariants.{Ask, Done}
+use Rattle.tm_batch.specs.declared.limits.TheConstants.{MOST_HOLDS}
 use Rattle.tm_model.specs.State.{Start, Work, Object, holds_of, with_holds, total, change, kept, object_of}
 use Rattle.tm_batch.specs.declared.config.First.{First}
 use Rattle.tm_model.specs.Opening.{opened, is_named}
 use Rattle.tm_model.specs.Serve.{works_resumed}
-use Rattle.tm_core.proofs.Every.{all_map, all_each, all_weaker, all_filter, all-append, all_set, all_at}
+use Rattle.tm_core.proofs.CallerLemmas.{all_map, all_each, all_weaker, all_filter, all-append, all_set, all_at}
 use Rattle.tm_core.proofs.Rising.{RisesTo}
 
 pub filter_shorter : {X : Type 0} (p : X → Bool) (xs : List X) → length (filter p xs) ≤ length xs
@@ -106,7 +108,7 @@ module _ {V T : Type 0} where
 
   pub granted_bounded :
       (n d id ticket next : ℕ) (live : List (Object V T)) (x : Object V T) → d < n → RisesTo n 1 next live → object_of live id ≡ Some x
-      → holds_of x d < 4294967295 → AllByRecursion (IsBoundedObject n ticket) live
+      → holds_of x d < MOST_HOLDS → AllByRecursion (IsBoundedObject n ticket) live
       → AllByRecursion (IsBoundedObject n ticket) (change id (λ o. with_holds d (holds_of o d + 1) o) live)
   granted_bounded n d id ticket next live x lt rises at few h =
       all_change_found (IsBoundedObject n ticket) n 1 next id (λ o. with_holds d (holds_of o d + 1) o) live x rises at

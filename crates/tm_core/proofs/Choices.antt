@@ -1,4 +1,4 @@
--- Numbers that a test chooses.
+-- `cond` over numbers: equal branches, a sum in a branch, and two tests in the other order.
 use Rattle.std.proofs.Common.{◌≡◌, ℕ, ◌+◌, Bool, true, false, cond, refl, add-zero}
 
 pub cond_same : (t : Bool) (n : ℕ) → cond t n n ≡ n

@@ -1,10 +1,11 @@
--- The completions of a place leave in the order in which its launches ended.
+-- Completions leave in the order in which the launches of their place ended, and those that are ready follow.
 use Rattle.std.proofs.Common.{◌≡◌, ℕ, ◌+◌, ◌<◌, true, false, cond, List, [], ◌∷◌, ◌++◌, length, take, drop, slice_index_or, slice_set, inl, inr, refl, sym, ◌∙◌, ap, subst, arith, eq-eqb, ne_eqb, get_or-set_same, get_or-set_other, append_assoc, append-nil}
 use Rattle.std.specs.Prelude.{◌==◌}
 use Rattle.std.proofs.lemmas.Bool.{cases_eq}
 use Rattle.std.proofs.lemmas.List.{take-append-drop}
 use Rattle.tm_seq.specs.Kind.{Kind}
 use Rattle.tm_seq.specs.declared.kind.Next.TheVariants.{Ask, Done}
+use Rattle.tm_batch.specs.declared.limits.TheConstants.{MOST_COMPLETIONS}
 use Rattle.tm_batch.specs.declared.message.Completion.{Completion}
 use Rattle.tm_batch.specs.declared.message.Request.{Request}
 use Rattle.tm_batch.specs.declared.message.Request.TheVariants.{Entrust, Apply, Launch, Grant, Release, Reclaim, Bye}
@@ -42,16 +43,16 @@ module _ {V O R T : Type 0} where
 
   sent_ready :
       (c d room : ℕ) (s : State V O R T) → d < length s.places
-      → (place_of (sent_off d room s) c).ready ≡ cond (d == c) (drop 16 (place_of s c).ready) (place_of s c).ready
+      → (place_of (sent_off d room s) c).ready ≡ cond (d == c) (drop MOST_COMPLETIONS (place_of s c).ready) (place_of s c).ready
   sent_ready c d room s lt =
       let p = place_of s d in
-      let new : Place V O R T = record p { gifts = drop room p.gifts; ready = drop 16 p.ready } in
+      let new : Place V O R T = record p { gifts = drop room p.gifts; ready = drop MOST_COMPLETIONS p.ready } in
       elim (cases_eq d c) [
         | inl e ↦
             rw (eq-eqb d c e)
             (ap (λ x. (slice_index_or (slice_set s.places d new) x no_place).ready) (sym e)
             ∙ ap (λ (y : Place V O R T). y.ready) (get_or-set_same s.places d new no_place lt)
-            ∙ ap (λ x. drop 16 (place_of s x).ready) e)
+            ∙ ap (λ x. drop MOST_COMPLETIONS (place_of s x).ready) e)
         | inr ne ↦
             rw (ne_eqb d c ne) (ap (λ (y : Place V O R T). y.ready) (get_or-set_other s.places d c new no_place (λ is. ne (sym is))))
       ]
@@ -141,13 +142,13 @@ module _ {V O R T : Type 0} where
       elim (cases_eq d c) [
         | inl same ↦
             let own : (d == c) ≡ true = eq-eqb d c same in
-            let first = take 16 ready in
+            let first = take MOST_COMPLETIONS ready in
             ap (λ t. completions_in (cond t leaves stays) ++ last) own
             ∙ append_assoc first (completions_in (batches_from kind c (m + 1) [] s' es)) last
-            ∙ ap (λ l. first ++ l) (more [] ∙ ap (λ l. l ++ rest) (now ∙ ap (λ t. cond t (drop 16 ready) ready) own))
-            ∙ sym (append_assoc first (drop 16 ready) rest) ∙ ap (λ l. l ++ rest) (take-append-drop 16 ready)
+            ∙ ap (λ l. first ++ l) (more [] ∙ ap (λ l. l ++ rest) (now ∙ ap (λ t. cond t (drop MOST_COMPLETIONS ready) ready) own))
+            ∙ sym (append_assoc first (drop MOST_COMPLETIONS ready) rest) ∙ ap (λ l. l ++ rest) (take-append-drop MOST_COMPLETIONS ready)
         | inr ne ↦
             let other : (d == c) ≡ false = ne_eqb d c ne in
             ap (λ t. completions_in (cond t leaves stays) ++ last) other
-            ∙ more w ∙ ap (λ l. l ++ rest) (now ∙ ap (λ t. cond t (drop 16 ready) ready) other)
+            ∙ more w ∙ ap (λ l. l ++ rest) (now ∙ ap (λ t. cond t (drop MOST_COMPLETIONS ready) ready) other)
       ]

@@ -1,4 +1,4 @@
--- No launch ends twice.
+-- A ticket is that of one unfinished launch at most, so no launch ends twice.
 use Rattle.std.proofs.Common.{◌≡◌, ◌≢◌, ℕ, ◌+◌, ◌-◌, ◌<◌, ◌≤◌, true, false, not, cond, List, [], ◌∷◌, ◌++◌, map, slice_set, inl, inr, refl, ◌∙◌, ap, subst, arith, eq-eqb, ne_eqb}
 use Rattle.std.specs.Prelude.{◌==◌, nat_eq}
 use Rattle.std.specs.List.{AllByRecursion, IsDistinct}
@@ -21,7 +21,7 @@ use Rattle.tm_model.specs.Serve.{value_run, value_advanced, works_resumed, works
 use Rattle.tm_model.specs.Legal.{HasFirst, Serves, MayCome, IsLegal}
 use Rattle.tm_model.specs.Given.{ended_from}
 use Rattle.tm_model.specs.Laws.{IsOpening, CompletionsAreOfLaunches}
-use Rattle.tm_core.proofs.Every.{weaker_first, found}
+use Rattle.tm_core.proofs.CallerLemmas.{weaker_first, found}
 use Rattle.tm_core.proofs.Weighing.{weigh, weigh_filter, weigh_map, weigh_change_same, weigh-append, weigh_found, weigh_change}
 use Rattle.tm_core.proofs.Bounds.{IsBoundedObject}
 use Rattle.tm_core.proofs.Numbering.{opening_place}

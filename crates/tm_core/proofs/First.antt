@@ -1,4 +1,5 @@
 -- The first core of a trustee is good.
+-- Other crates import from this file.
 use Rattle.std.proofs.Common.{◌≡◌, ◌≢◌, ℕ, ◌+◌, ◌<◌, List, [], ◌∷◌, ◌++◌, refl, subst, arith}
 use Rattle.std.proofs.Math.ListN.{length-replicate, get_or-replicate}
 use Rattle.tm_seq.specs.Kind.{Kind}

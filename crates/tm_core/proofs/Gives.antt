@@ -1,4 +1,5 @@
--- What a place holds, and the gifts that wait for it: what each entry does to them.
+-- Each entry takes from a place's holds what its requests give away, and adds what their answers and the gifts that leave bring.
+-- Other crates import from this file.
 use Rattle.std.proofs.Common.{◌≡◌, ◌≢◌, ℕ, zero, suc, ◌+◌, ◌-◌, ◌<◌, ◌≤◌, true, cond, List, [], ◌∷◌, ◌++◌, length, map, slice_index_or, slice_set, take, drop, inl, inr, refl, sym, ◌∙◌, ap, arith, eq-eqb, ne_eqb, get_or-set_same, get_or-set_other, IsFalse}
 use Rattle.std.specs.Prelude.{◌==◌}
 use Rattle.std.specs.declared.option.Option.TheVariants.{Some}
@@ -9,6 +10,7 @@ use Rattle.tm_seq.specs.Kind.{Kind}
 use Rattle.tm_seq.specs.declared.kind.Event.{Event}
 use Rattle.tm_seq.specs.declared.kind.Next.{Next}
 use Rattle.tm_seq.specs.declared.kind.Next.TheVariants.{Ask, Done}
+use Rattle.tm_batch.specs.declared.limits.TheConstants.{MOST_COMPLETIONS}
 use Rattle.tm_batch.specs.declared.message.Name.{Name}
 use Rattle.tm_batch.specs.declared.message.Completion.{Completion}
 use Rattle.tm_batch.specs.declared.message.Request.{Request}
@@ -24,7 +26,7 @@ use Rattle.tm_core.proofs.Balance.{sum_granted, sum_released, sum_reclaimed, sum
 use Rattle.tm_core.proofs.Living.{completed_live}
 use Rattle.tm_core.proofs.Ordered.{IsOrdered}
 use Rattle.tm_core.proofs.Choices.{cond_same, cond_plus, cond_swap}
-use Rattle.tm_core.proofs.Every.{found, found_both}
+use Rattle.tm_core.proofs.CallerLemmas.{found, found_both}
 use Rattle.tm_core.proofs.Places.{place_field}
 use Rattle.tm_core.proofs.Rising.{holds_sum, sum_change, sum_kept, sum_closed_other}
 use Rattle.tm_core.proofs.Tallies.{gifts_of-append}
@@ -171,7 +173,7 @@ module _ {V O R T : Type 0} where
   sent_gives c d room s lt =
       elim (cases_eq d c) [
         | inl e ↦
-            let here : place_of (sent_off c room s) c ≡ record (place_of s c) { gifts = drop room (place_of s c).gifts; ready = drop 16 (place_of s c).ready } =
+            let here : place_of (sent_off c room s) c ≡ record (place_of s c) { gifts = drop room (place_of s c).gifts; ready = drop MOST_COMPLETIONS (place_of s c).ready } =
             get_or-set_same s.places c _ no_place lt in
             rw (e, eq-eqb c c refl) (record {
               holds = λ id.

@@ -1,4 +1,4 @@
--- The value and the unfinished tasks of a live object are what its history leaves.
+-- The value and the unfinished tasks of a live object are what its history leaves of the value with which it was entrusted.
 use Rattle.std.proofs.Common.{◌≡◌, ℕ, ◌+◌, true, false, cond, List, [], ◌∷◌, ◌++◌, map, inl, inr, refl, sym, ◌∙◌, ap, subst, arith, eq-eqb, ne_eqb}
 use Rattle.std.proofs.lemmas.Bool.{cases_eq}
 use Rattle.std.specs.Prelude.{◌==◌}
@@ -18,7 +18,7 @@ use Rattle.tm_model.specs.Serve.{value_run, value_advanced, works_resumed, works
 use Rattle.tm_model.specs.Legal.{IsLegal}
 use Rattle.tm_model.specs.History.{tasks_resumed, value_told, history_of, lived, first_value}
 use Rattle.tm_model.specs.Laws.{IsOpening, HistoriesTellValues}
-use Rattle.tm_core.proofs.Every.{option_cases}
+use Rattle.tm_core.proofs.CallerLemmas.{option_cases}
 use Rattle.tm_core.proofs.Finding.{found_below}
 use Rattle.tm_core.proofs.Living.{lives, after_goes}
 use Rattle.tm_core.proofs.Absent.{after_past, after_appears, after_next, never_again}

@@ -1,4 +1,4 @@
--- What a legal log does to the holds of a place and to the gifts that wait for it, from any state on.
+-- A legal log, from any state on: a place's holds and what it gave away are what it had, what came, and the gifts that wait.
 use Rattle.std.proofs.Common.{◌≡◌, ◌≢◌, ℕ, ◌+◌, ◌<◌, true, false, cond, List, [], ◌∷◌, ◌++◌, length, take, inl, inr, refl, sym, ◌∙◌, ap, subst, arith, eq-eqb, ne_eqb, zero-add, get_or-set_same}
 use Rattle.std.specs.Prelude.{◌==◌}
 use Rattle.std.proofs.Math.Seq.{take-nil}

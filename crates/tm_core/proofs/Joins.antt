@@ -1,7 +1,9 @@
--- Logs that are joined: which are legal, what leaves by them, and how an answer makes them grow.
+-- Logs that are joined: the two are legal, their states and what leaves by them go on, and an answer adds one batch of its place.
+-- Other crates import from this file.
 use Rattle.std.proofs.Common.{◌≡◌, ◌≢◌, ℕ, suc, ◌+◌, Bool, true, false, cond, List, [], ◌∷◌, ◌++◌, length, refl, sym, ◌∙◌, ap, arith, eq-eqb, ne_eqb, append_assoc, append-nil, ◌≤◌, length-take}
 use Rattle.std.specs.Prelude.{◌==◌}
 use Rattle.tm_seq.specs.Kind.{Kind}
+use Rattle.tm_batch.specs.declared.limits.TheConstants.{MOST_COMPLETIONS}
 use Rattle.tm_batch.specs.declared.message.Request.{Request}
 use Rattle.tm_batch.specs.declared.message.Answer.{Answer}
 use Rattle.tm_batch.specs.declared.message.AnswerBatch.{AnswerBatch}
@@ -130,13 +132,13 @@ module _ {V O R T : Type 0} where
     others_batch n d k w s (q ∷ b) (a ∷ answers) room ne =
         others_batch (n + 1) d (k + 1) (cond (d == c) (w ++ a ∷ []) w) (after kind s (By d k q a)) b answers room ne
 
-  -- one answer batch leaves by a batch, with no more gifts than its room and no more than 16 completions
+  -- one answer batch leaves by a batch, with no more gifts than its room and no more completions than may leave
   added_leaves :
       (kind : Kind V O R T) (opening : State V O R T) (log resumes : List (Entry V O R T)) (c : ℕ) (b : List (Request V O R T)) (room : ℕ)
       (answers : List (Answer V O R T)) → AreResumes resumes → length answers ≡ length b
       → (a : AnswerBatch V O R T)
       × (batches kind opening c (log ++ added log resumes c b room answers) ≡ batches kind opening c log ++ a ∷ [])
-      × (length a.gifts.items ≤ room) × (length a.completions.items ≤ 16)
+      × (length a.gifts.items ≤ room) × (length a.completions.items ≤ MOST_COMPLETIONS)
   added_leaves kind opening log resumes c b room answers only many =
       let s = state_after kind (state_after kind (state_after kind opening log) resumes) (entries_by c (length (ran c log)) b answers) in (
         _,
@@ -146,13 +148,13 @@ module _ {V O R T : Type 0} where
             ∙ own_batch kind c (0 + length log + length resumes) (length (ran c log)) (waiting_after c [] log)
             (state_after kind (state_after kind opening log) resumes) b answers room many),
         rw (length-take room (place_of s c).gifts) (omega arith),
-        rw (length-take 16 (place_of s c).ready) (omega arith),
+        rw (length-take MOST_COMPLETIONS (place_of s c).ready) (omega arith),
       )
 
-  -- an answer batch has no more gifts than the room, and no more than 16 completions
+  -- an answer batch has no more gifts than the room, and no more completions than may leave
   pub growing_few :
       (kind : Kind V O R T) (opening : State V O R T) (log resumes : List (Entry V O R T)) (c : ℕ) (b : List (Request V O R T)) (room : ℕ)
-      (a : AnswerBatch V O R T) → MayGrow kind opening log resumes c b room a → (length a.gifts.items ≤ room) × (length a.completions.items ≤ 16)
+      (a : AnswerBatch V O R T) → MayGrow kind opening log resumes c b room a → (length a.gifts.items ≤ room) × (length a.completions.items ≤ MOST_COMPLETIONS)
   growing_few kind opening log resumes c b room a may =
       let (left, leaves, gifts, completions) = added_leaves kind opening log resumes c b room a.answers.items may.only may.as_many in
       let (front, ends) = may.last in

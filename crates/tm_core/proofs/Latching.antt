@@ -1,4 +1,4 @@
--- Launched work on one object does not overlap.
+-- The resumes of one object are whole runs of its tickets in their order, and at most one open run behind them.
 use Rattle.std.proofs.Common.{◌≡◌, ℕ, ◌⊎◌, true, false, cond, List, [], ◌∷◌, ◌++◌, map, inl, inr, refl, sym, ap, subst, eq-eqb, ne_eqb}
 use Rattle.std.specs.Prelude.{◌==◌}
 use Rattle.std.specs.List.{AllByRecursion}
@@ -19,7 +19,7 @@ use Rattle.tm_model.specs.Serve.{value_run, works_resumed, after}
 use Rattle.tm_model.specs.Legal.{IsAwaited, HasFirst, MayCome, IsLegal}
 use Rattle.tm_model.specs.Latched.{Resumption, IsBegin, IsDone, AreRuns, tickets_of, resumes_of}
 use Rattle.tm_model.specs.Laws.{LaunchesAreLatched}
-use Rattle.tm_core.proofs.Every.{weaker_first, option_cases, all-append}
+use Rattle.tm_core.proofs.CallerLemmas.{weaker_first, option_cases, all-append}
 use Rattle.tm_core.proofs.Living.{lives, after_goes}
 use Rattle.tm_core.proofs.Absent.{after_past, after_appears}
 use Rattle.tm_core.proofs.Histories.{opening_idle}

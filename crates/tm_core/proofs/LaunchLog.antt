@@ -1,7 +1,9 @@
--- What a legal log does to the launches of a place, from any state on.
+-- A legal log, from any state on: the launches that it ran are open, or ended by what left or waits.
+-- Other crates import from this file.
 use Rattle.std.proofs.Common.{◌≡◌, ℕ, ◌+◌, ◌<◌, true, false, cond, List, [], ◌∷◌, ◌++◌, length, take, arith}
 use Rattle.std.specs.Prelude.{◌==◌}
 use Rattle.tm_seq.specs.Kind.{Kind}
+use Rattle.tm_batch.specs.declared.limits.TheConstants.{MOST_COMPLETIONS}
 use Rattle.tm_batch.specs.declared.message.Answer.{Answer}
 use Rattle.tm_model.specs.declared.entry.Entry.{Entry}
 use Rattle.tm_model.specs.declared.entry.Entry.TheVariants.{By, Resume, Sent}
@@ -56,7 +58,7 @@ module _ {V O R T : Type 0} where
         let one = sent_launches c d room s (omega (arith, h.places, lt)) in
         let more = log_launches (k + 1) (cond (d == c) [] w) s' es h' legal.1 in
         elim (d == c) as
-        (λ t. 0 + open_launches s c ≡ open_launches s' c + cond t (length (take 16 (place_of s c).ready)) 0
+        (λ t. 0 + open_launches s c ≡ open_launches s' c + cond t (length (take MOST_COMPLETIONS (place_of s c).ready)) 0
         → launches_in (ran c es) + open_launches s' c + spent_in (cond t [] w)
         ≡ open_launches (state_after kind s' es) c + ended_in (batches_from kind c (k + 1) (cond t [] w) s' es)
         + spent_in (waiting_after c (cond t [] w) es)

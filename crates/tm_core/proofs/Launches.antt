@@ -1,4 +1,4 @@
--- How many launches of a place have not ended: what each entry does to them.
+-- Each entry's change of the launches of a place that are open: unfinished, or ready and not yet left.
 use Rattle.std.proofs.Common.{◌≡◌, ℕ, ◌+◌, ◌<◌, ◌≤◌, cond, List, [], ◌∷◌, ◌++◌, length, slice_index_or, slice_set, take, drop, inl, inr, refl, sym, ◌∙◌, ap, arith, eq-eqb, ne_eqb, get_or-set_same, get_or-set_other, length-append, length-take, length-drop}
 use Rattle.std.specs.Prelude.{◌==◌}
 use Rattle.std.proofs.lemmas.Bool.{cases_eq}
@@ -6,6 +6,7 @@ use Rattle.tm_seq.specs.Kind.{Kind, IsResume}
 use Rattle.tm_seq.specs.declared.kind.Event.{Event}
 use Rattle.tm_seq.specs.declared.kind.Next.{Next}
 use Rattle.tm_seq.specs.declared.kind.Next.TheVariants.{Ask, Done}
+use Rattle.tm_batch.specs.declared.limits.TheConstants.{MOST_COMPLETIONS}
 use Rattle.tm_batch.specs.declared.message.Request.{Request}
 use Rattle.tm_batch.specs.declared.message.Request.TheVariants.{Entrust, Apply, Launch, Grant, Release, Reclaim, Bye}
 use Rattle.tm_batch.specs.declared.message.Answer.{Answer}
@@ -17,7 +18,7 @@ use Rattle.tm_model.specs.Legal.{Serves, MayCome, HasFirst, IsAwaited}
 use Rattle.tm_model.specs.Holds.{launches_in, spent_in, works_of, unfinished}
 use Rattle.tm_core.proofs.Ordered.{IsOrdered}
 use Rattle.tm_core.proofs.Choices.{cond_same}
-use Rattle.tm_core.proofs.Every.{found, found_both, item_within}
+use Rattle.tm_core.proofs.CallerLemmas.{found, found_both, item_within}
 use Rattle.tm_core.proofs.Living.{completed_live}
 use Rattle.tm_core.proofs.Places.{place_field}
 use Rattle.tm_core.proofs.Unfinished.{works_of-append, no_works, unfinished-append, unfinished_change, unfinished_map, unfinished_kept, unfinished_changed, unfinished_without}
@@ -94,14 +95,14 @@ module _ {V O R T : Type 0} where
   -- completions of place d that leave
   pub sent_launches :
       (c d room : ℕ) (s : State V O R T) → c < length s.places
-      → Launches c s (sent_off d room s) 0 (cond (d == c) (length (take 16 (place_of s c).ready)) 0)
+      → Launches c s (sent_off d room s) 0 (cond (d == c) (length (take MOST_COMPLETIONS (place_of s c).ready)) 0)
   sent_launches c d room s lt =
       elim (cases_eq d c) [
         | inl e ↦
-            let here : place_of (sent_off c room s) c ≡ record (place_of s c) { gifts = drop room (place_of s c).gifts; ready = drop 16 (place_of s c).ready } =
+            let here : place_of (sent_off c room s) c ≡ record (place_of s c) { gifts = drop room (place_of s c).gifts; ready = drop MOST_COMPLETIONS (place_of s c).ready } =
             get_or-set_same s.places c _ no_place lt in
-            let left = length-drop 16 (place_of s c).ready in
-            let gone = length-take 16 (place_of s c).ready in
+            let left = length-drop MOST_COMPLETIONS (place_of s c).ready in
+            let gone = length-take MOST_COMPLETIONS (place_of s c).ready in
             rw (e, eq-eqb c c refl, here) (omega (arith, left, gone))
         | inr ne ↦ rw (ne_eqb d c ne, get_or-set_other s.places d c _ no_place (λ e. ne (sym e))) (omega arith)
       ]

@@ -5,10 +5,13 @@ pub mod AllAnswers
 pub mod AnswerKeeps
 pub mod Balance
 pub mod Bounds
+pub mod CallerLemmas
 pub mod Choices
+pub mod ClientAnswers
+pub mod ClientHolds
+pub mod ClientTickets
 pub mod Completing
 pub mod EndingOnce
-pub mod Every
 pub mod Finding
 pub mod First
 pub mod Gives
@@ -27,6 +30,7 @@ pub mod Marks
 pub mod Newly
 pub mod NumberLogs
 pub mod Numbering
+pub mod Openings
 pub mod Ordered
 pub mod Places
 pub mod Promised

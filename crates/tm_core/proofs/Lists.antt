@@ -1,4 +1,4 @@
--- Lists that are joined, begun and split.
+-- `IsPrefix` where the longer list grows, the place of an item in two joined lists, and last items.
 use Rattle.std.proofs.Common.{◌≡◌, ◌≢◌, ◌≤◌, ◌⊎◌, List, [], ◌∷◌, ◌++◌, length, inl, inr, refl, ◌∙◌, ap, arith, append_assoc, length-append}
 use Rattle.tm_model.specs.Lists.{IsPrefix}
 

@@ -1,4 +1,4 @@
--- What an entry does to the value and the unfinished launches of one object.
+-- An entry's change of the value and the unfinished launches of the object of one id, which goes only with none left.
 use Rattle.std.proofs.Common.{◌≡◌, ℕ, ◌+◌, ◌-◌, ◌⊎◌, true, false, not, cond, List, [], ◌∷◌, ◌++◌, length-set, inl, inr, refl, sym, ◌∙◌, ap, arith, eq-eqb, ne_eqb}
 use Rattle.std.specs.Prelude.{◌==◌}
 use Rattle.std.specs.declared.option.Option.{Option}
@@ -16,7 +16,7 @@ use Rattle.tm_model.specs.declared.entry.Entry.TheVariants.{By, Resume, Sent}
 use Rattle.tm_model.specs.State.{Start, Work, Object, State, holds_of, with_holds, kept, object_of}
 use Rattle.tm_model.specs.Serve.{value_run, value_advanced, works_resumed, works_in, served, completed, after}
 use Rattle.tm_model.specs.Legal.{Serves, MayCome}
-use Rattle.tm_core.proofs.Every.{item_within}
+use Rattle.tm_core.proofs.CallerLemmas.{item_within}
 use Rattle.tm_core.proofs.Finding.{no_items, found_id, filter_found, kept_found, map_found, change_found, append_found}
 use Rattle.tm_core.proofs.Rising.{RisesTo, rises_change, rises_map}
 use Rattle.tm_core.proofs.Ordered.{IsOrdered}

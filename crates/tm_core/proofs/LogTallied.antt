@@ -1,4 +1,5 @@
--- A legal log is tallied for each place to which all answers left, so an answer keeps the core good.
+-- A settled legal log is tallied for its place (`log_tallied`), and so an answer keeps the core good (`answer_keeps_good`).
+-- Other crates import from this file.
 use Rattle.std.proofs.Common.{◌≡◌, ◌<◌, ℕ, List, [], ◌∷◌, ◌++◌, length, sym, ◌∙◌, ap, arith, append-nil}
 use Rattle.tm_seq.specs.Kind.{Kind}
 use Rattle.tm_batch.specs.declared.message.Request.{Request}
@@ -24,7 +25,7 @@ use Rattle.tm_core.proofs.Tallied.{IsTallied, answer_keeps_tallied}
 
 module _ {V O R T : Type 0} (kind : Kind V O R T) where
   -- where all answers to a place left, and nothing of it ran after a Bye
-  log_tallied :
+  pub log_tallied :
       (opening : State V O R T) (c : ℕ) (log : List (Entry V O R T)) → IsOpening opening → IsLegal kind opening log → c < place_count opening.setup
       → IsSettled mark_of c log
       → ((before after : List (Request V O R T)) → ran c log ≡ before ++ Bye ∷ after → after ≡ [])

@@ -1,4 +1,4 @@
--- What a longer log adds, and which ids and tickets it gives out.
+-- A longer log adds to what ran, was answered and left; ids and tickets are given out in order, each once.
 use Rattle.std.proofs.Common.{◌≡◌, ℕ, ◌+◌, ◌⊎◌, Bool, true, false, cond, List, [], ◌∷◌, ◌++◌, length, inl, inr, refl, sym, ◌∙◌, ap, arith, add-zero}
 use Rattle.std.specs.Prelude.{◌==◌}
 use Rattle.std.specs.List.{range_with_len}

@@ -1,4 +1,4 @@
--- Cells of places that nothing came to.
+-- The cells of a new machine show the first core.
 use Rattle.std.proofs.Common.{◌≡◌, ℕ, ◌<◌, List, [], ◌∷◌, ◌++◌, length, slice_index_or, inl, inr, refl, sym, ◌∙◌, ap, subst, arith, length-append, length-set}
 use Rattle.std.proofs.Math.ListN.{length-replicate, get_or-replicate}
 use Rattle.std.proofs.Math.Seq.{get_or-append_seam}

@@ -1,4 +1,5 @@
--- In the state that a legal log leaves, ids rise, each object has holds for all places, and there are as many places as ever.
+-- `IsOrdered`: ids rise, each object has holds for all places, and there are as many places as ever; it is so after each legal log.
+-- Other crates import from this file.
 use Rattle.std.proofs.Common.{◌≡◌, ℕ, suc, ◌+◌, List, [], ◌∷◌, length, map, refl, ◌∙◌, subst, arith, length-set}
 use Rattle.std.proofs.lemmas.List.{length-map}
 use Rattle.std.proofs.lemmas.List.FromFn.{length-map-range_with_len}

@@ -1,4 +1,5 @@
--- A field of the places of a state, where one place changes.
+-- `place_field`: a field of every place stays, if that of the one place that changes does.
+-- Other crates import from this file.
 use Rattle.std.proofs.Common.{◌≡◌, ℕ, List, length, slice_index_or, slice_set, inl, inr, refl, get_or-set_same, get_or-set_other}
 use Rattle.std.proofs.lemmas.Bool.{cases_eq, cases_lt}
 use Rattle.std.proofs.lemmas.List.{set_past}

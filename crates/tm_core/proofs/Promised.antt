@@ -1,4 +1,5 @@
--- What a good core tells of each batch that is asked or taken.
+-- What a good core tells of each batch that is asked or taken, and that an id which a place holds is live.
+-- Other crates import from this file.
 use Rattle.std.proofs.Common.{◌≡◌, ◌≢◌, ℕ, ◌+◌, ◌-◌, ◌<◌, ◌≤◌, true, false, not, cond, List, [], ◌∷◌, ◌++◌, length, map, slice_set, inl, inr, refl, sym, ◌∙◌, ap, subst, arith, eq-eqb, length-append, get_or-set_same, get_or-set_other}
 use Rattle.std.proofs.lemmas.List.{set_past}
 use Rattle.std.specs.Prelude.{◌==◌}
@@ -29,7 +30,7 @@ use Rattle.tm_model.specs.Orderly.{IsOrderly}
 use Rattle.tm_model.specs.Good.{FullBox, FullSlot, FullCore, unserved, got_with, IsOutInOrder, IsGood}
 use Rattle.tm_model.specs.Laws.{IsOpening, IsPromised, BatchesArePromised, HeldAreLive}
 use Rattle.tm_model.proofs.Byes.{not_in_none, bye_names}
-use Rattle.tm_core.proofs.Every.{found}
+use Rattle.tm_core.proofs.CallerLemmas.{found}
 use Rattle.tm_core.proofs.Tallies.{came_more, came_same, bye_in, gave-append, launches_in-append, bye_more}
 use Rattle.tm_core.proofs.Rising.{holds_sum, holds_are_sum, sum_change, sum_kept}
 use Rattle.tm_core.proofs.Balance.{sum_released, sum_reclaimed, sum_appended}
@@ -69,7 +70,7 @@ module _ {V T : Type 0} where
         | inr ne ↦ let same = get_or-set_other o.holds d c (holds_of o d + 1) 0 ne in omega (arith, same)
       ]
 
-  holds_one : (o : Option (Object V T)) (c : ℕ) → 1 ≤ holds_in o c → IsSomeAnd o (λ x. 1 ≤ holds_of x c)
+  pub holds_one : (o : Option (Object V T)) (c : ℕ) → 1 ≤ holds_in o c → IsSomeAnd o (λ x. 1 ≤ holds_of x c)
   holds_one None c h = omega (arith, h)
   holds_one (Some x) c h = h
 

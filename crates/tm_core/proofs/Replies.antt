@@ -13,7 +13,7 @@ use Rattle.tm_model.specs.Serve.{value_run, after, state_after}
 use Rattle.tm_model.specs.Legal.{HasFirst, IsLegal}
 use Rattle.tm_model.specs.History.{Leaves}
 use Rattle.tm_model.specs.Laws.{IsOpening, RepliesAreOfHistories, ResumesAreOfHistories, ReclaimsAreOfHistories}
-use Rattle.tm_core.proofs.Every.{found, item_within}
+use Rattle.tm_core.proofs.CallerLemmas.{found, item_within}
 use Rattle.tm_core.proofs.Finding.{no_items, found_id, found_below, filter_found}
 use Rattle.tm_core.proofs.Joins.{state-append, legal_logs_join}
 use Rattle.tm_core.proofs.Ordered.{log_ordered, opening_ordered}

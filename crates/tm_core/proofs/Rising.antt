@@ -1,4 +1,5 @@
--- Live objects with ids that rise, and the holds of a place on an id.
+-- `RisesTo`: live objects with rising ids; and `holds_sum`, the holds of a place on an id, where they change.
+-- Other crates import from this file.
 use Rattle.std.proofs.Common.{◌≡◌, ◌≢◌, ℕ, ◌+◌, ◌<◌, ◌≤◌, Bool, true, false, cond, List, [], ◌∷◌, ◌++◌, length, map, filter, slice_index_or, slice_set, sum, get_or-set_same, get_or-set_other, inl, inr, refl, sym, ◌∙◌, ap, arith, eq-eqb, ne_eqb}
 use Rattle.std.specs.Prelude.{◌==◌}
 use Rattle.std.specs.declared.option.Option.TheVariants.{Some}

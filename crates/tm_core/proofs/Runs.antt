@@ -1,4 +1,4 @@
--- After every list of steps that are allowed the slots are good.
+-- Over numbers: after every list of steps that are allowed the slots are good.
 use Rattle.std.proofs.Common.{◌≡◌, List, [], ◌∷◌, refl, sym, ap, subst}
 use Rattle.tm_model.specs.Slots.{slot_of, first_core, answer}
 use Rattle.tm_core.specs.declared.step.Step.{Step}

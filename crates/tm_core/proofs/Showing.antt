@@ -1,4 +1,4 @@
--- What the cells show after a step.
+-- The cells of the machine show the core after each step, and after one that fails for want of memory the core before it.
 use Rattle.std.proofs.Common.{◌≡◌, ◌≢◌, ℕ, ◌<◌, not, Vec, Global, List, ◌++◌, length, slice_index_or, slice_set, inl, inr, refl, sym, ◌∙◌, ap, subst, arith, get_or-set_same, get_or-set_other, length-set}
 use Rattle.std.proofs.lemmas.Bool.{cases_eq}
 use Rattle.tm_model.specs.Slots.{Empty, Asked, Taken, Answered, no_slot, slot_of, published, taken, answered, collected, looked, is_asked, is_answered}

@@ -1,4 +1,5 @@
--- A legal log leaves a sound state.
+-- `IsBounded`, kept by each entry; with `IsOrdered` it makes the state that a legal log leaves sound.
+-- Other crates import from this file.
 use Rattle.std.proofs.Common.{◌≡◌, ◌≢◌, ℕ, ◌+◌, ◌-◌, ◌^◌, ◌<◌, ◌≤◌, true, not, List, [], ◌∷◌, ◌++◌, length, map, slice_index_or, slice_set, inl, inr, refl, ◌∙◌, subst, arith, length-set, length-append, length-drop, get_or-set_same}
 use Rattle.std.specs.Prelude.{◌==◌}
 use Rattle.std.specs.List.{AllByRecursion}
@@ -9,6 +10,7 @@ use Rattle.std.proofs.lemmas.Map.Keys.{IsStrictlyIncreasing-from_sorted}
 use Rattle.tm_seq.specs.Kind.{Kind}
 use Rattle.tm_seq.specs.declared.kind.Next.{Next}
 use Rattle.tm_seq.specs.declared.kind.Next.TheVariants.{Done}
+use Rattle.tm_batch.specs.declared.limits.TheConstants.{MOST_GIFTS, MOST_HOLDS}
 use Rattle.tm_batch.specs.declared.message.Request.{Request}
 use Rattle.tm_batch.specs.declared.message.Request.TheVariants.{Entrust, Apply, Launch, Grant, Release, Reclaim, Bye}
 use Rattle.tm_batch.specs.declared.message.Answer.{Answer}
@@ -20,7 +22,7 @@ use Rattle.tm_model.specs.Opening.{placed_on}
 use Rattle.tm_model.specs.Serve.{served, completed, works_in, works_resumed, value_advanced, after, state_after}
 use Rattle.tm_model.specs.Legal.{Serves, MayCome, IsLegal, IsGiftRefused}
 use Rattle.tm_model.specs.Laws.{IsOpening, StatesAreSound}
-use Rattle.tm_core.proofs.Every.{is_same, found, all_map, all_replicate, all_weaker, all_both, all_filter, all-append, all_set, all_at}
+use Rattle.tm_core.proofs.CallerLemmas.{is_same, found, all_map, all_replicate, all_weaker, all_both, all_filter, all-append, all_set, all_at}
 use Rattle.tm_core.proofs.Bounds.{HasBounds, IsBoundedObject, filter_shorter, resumed_works, all_change, bounds_of, kept_bounded, change_as_long, granted_bounded, released_bounded, closed_bounded, launched_bounded, rises_all, rises_sorted, opened_long, opened_bounded}
 use Rattle.tm_core.proofs.Ordered.{IsOrdered, after_ordered, log_ordered, opening_ordered}
 
@@ -32,10 +34,10 @@ module _ {V O R T : Type 0} where
     pub next_ticket : (1 ≤ s.next_ticket) × (s.next_ticket ≤ built.config.last_id + 1)
     pub most : length s.live ≤ built.config.objects
     pub objects : AllByRecursion (IsBoundedObject n s.next_ticket) s.live
-    pub gifts : AllByRecursion (λ p. length p.gifts ≤ 1024) s.places
+    pub gifts : AllByRecursion (λ p. length p.gifts ≤ MOST_GIFTS) s.places
 
-  place_few : (s : State V O R T) (c : ℕ) → AllByRecursion (λ p. length p.gifts ≤ 1024) s.places → length (place_of s c).gifts ≤ 1024
-  place_few s c h = all_at (λ (p : Place V O R T). length p.gifts ≤ 1024) s.places c no_place (omega arith) h
+  place_few : (s : State V O R T) (c : ℕ) → AllByRecursion (λ p. length p.gifts ≤ MOST_GIFTS) s.places → length (place_of s c).gifts ≤ MOST_GIFTS
+  place_few s c h = all_at (λ (p : Place V O R T). length p.gifts ≤ MOST_GIFTS) s.places c no_place (omega arith) h
 
   entrusted_bounded :
       (n c id : ℕ) (built : Setup) (v : V) (s : State V O R T) → c < n → length s.live < built.config.objects → s.next_id ≤ built.config.last_id
@@ -52,7 +54,7 @@ module _ {V O R T : Type 0} where
         (
           record {
             holds = all_set (λ k. k < 2 ^ 32) none c 1 (omega arith)
-                (all_map (λ (p : Place V O R T). length p.gifts ≤ 1024) (λ k. k < 2 ^ 32) (λ _. 0) s.places (λ p k. omega arith) h.gifts);
+                (all_map (λ (p : Place V O R T). length p.gifts ≤ MOST_GIFTS) (λ k. k < 2 ^ 32) (λ _. 0) s.places (λ p k. omega arith) h.gifts);
             works = tt;
           },
           omega (arith, le, own),
@@ -96,15 +98,15 @@ module _ {V O R T : Type 0} where
   served_bounded kind n c built (Grant i d) Granted s e lt may ordered h =
       let (x, at, free) = found (object_of s.live i.id) (λ o. ¬ IsGiftRefused s d o) may.2.1 in
       let within : d < n = let less : d < built.config.clients = subst (λ x. d < x.config.clients) h.setup may.1 in omega (arith, less, e) in
-      let few : length (place_of s d).gifts < 1024 = elim (cases_lt (length (place_of s d).gifts) 1024) [ inl l ↦ l | inr g ↦ absurd (free (inl g)) ] in
-      let holds : holds_of x d < 4294967295 = elim (cases_lt (holds_of x d) 4294967295) [ inl l ↦ l | inr g ↦ absurd (free (inr g)) ] in
+      let few : length (place_of s d).gifts < MOST_GIFTS = elim (cases_lt (length (place_of s d).gifts) MOST_GIFTS) [ inl l ↦ l | inr g ↦ absurd (free (inl g)) ] in
+      let holds : holds_of x d < MOST_HOLDS = elim (cases_lt (holds_of x d) MOST_HOLDS) [ inl l ↦ l | inr g ↦ absurd (free (inr g)) ] in
       record {
         setup = h.setup;
         next_id = h.next_id;
         next_ticket = h.next_ticket;
         most = rw (change_as_long i.id _ s.live) h.most;
         objects = granted_bounded n d i.id s.next_ticket s.next_id s.live x within ordered.rises at holds h.objects;
-        gifts = all_set (λ (p : Place V O R T). length p.gifts ≤ 1024) s.places d _ (let long = length-append (place_of s d).gifts (i ∷ []) in omega (arith, long, few)) h.gifts;
+        gifts = all_set (λ (p : Place V O R T). length p.gifts ≤ MOST_GIFTS) s.places d _ (let long = length-append (place_of s d).gifts (i ∷ []) in omega (arith, long, few)) h.gifts;
       }
   served_bounded kind n c built (Release i) Released s e lt may ordered h = record {
     setup = h.setup;
@@ -137,7 +139,7 @@ module _ {V O R T : Type 0} where
         let most = h.most in
         omega (arith, less, same, most);
     objects = closed_bounded n c s.next_ticket s.live h.objects;
-    gifts = all_set (λ (p : Place V O R T). length p.gifts ≤ 1024) s.places c _ (omega arith) h.gifts;
+    gifts = all_set (λ (p : Place V O R T). length p.gifts ≤ MOST_GIFTS) s.places c _ (omega arith) h.gifts;
   }
   served_bounded kind n c built _ _ s e lt may ordered h = h
 
@@ -149,7 +151,7 @@ module _ {V O R T : Type 0} where
     next_ticket = h.next_ticket;
     most = h.most;
     objects = h.objects;
-    gifts = all_set (λ (p : Place V O R T). length p.gifts ≤ 1024) s.places w.place _ (place_few s w.place h.gifts) h.gifts;
+    gifts = all_set (λ (p : Place V O R T). length p.gifts ≤ MOST_GIFTS) s.places w.place _ (place_few s w.place h.gifts) h.gifts;
   }
   completed_bounded n built _ ticket _ s h = h
 
@@ -165,7 +167,7 @@ module _ {V O R T : Type 0} where
         next_ticket = more.next_ticket;
         most = more.most;
         objects = more.objects;
-        gifts = all_set (λ (p : Place V O R T). length p.gifts ≤ 1024) (served kind c q a s).places c _ (place_few (served kind c q a s) c more.gifts) more.gifts;
+        gifts = all_set (λ (p : Place V O R T). length p.gifts ≤ MOST_GIFTS) (served kind c q a s).places c _ (place_few (served kind c q a s) c more.gifts) more.gifts;
       }
   after_bounded kind n built s (Resume id ticket event next) is may ordered h =
       completed_bounded n built (works_in (object_of s.live id)) ticket next _
@@ -190,7 +192,7 @@ module _ {V O R T : Type 0} where
     next_ticket = h.next_ticket;
     most = h.most;
     objects = h.objects;
-    gifts = all_set (λ (p : Place V O R T). length p.gifts ≤ 1024) s.places c _
+    gifts = all_set (λ (p : Place V O R T). length p.gifts ≤ MOST_GIFTS) s.places c _
         (let long = length-drop room (place_of s c).gifts in let few = place_few s c h.gifts in omega (arith, long, few)) h.gifts;
   }
 
@@ -220,7 +222,7 @@ module _ {V O R T : Type 0} where
               all_weaker (λ h. h < config.clients + f.trustee) (λ h. h < n) f.holders
                   (λ h lt. let e = is_same f.trustee number k.1 in omega (arith, lt, e)) k.0.1,
             )) on);
-        gifts = all_replicate (λ (p : Place V O R T). length p.gifts ≤ 1024) n no_place (omega arith);
+        gifts = all_replicate (λ (p : Place V O R T). length p.gifts ≤ MOST_GIFTS) n no_place (omega arith);
       })
 
   pub states_are_sound : (kind : Kind V O R T) → StatesAreSound kind

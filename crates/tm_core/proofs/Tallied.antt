@@ -1,7 +1,8 @@
--- What the slots and the tallies of a log say of a place, and how an answer keeps the core good where the longer log is tallied.
+-- `IsTallied`: what a settled log says of a place; with good slots the place is accounted for, so an answer keeps the core good.
 use Rattle.std.proofs.Common.{◌≡◌, ◌≢◌, ℕ, ◌+◌, ◌<◌, ◌≤◌, true, List, [], ◌∷◌, ◌++◌, length, slice_index_or, slice_set, inl, inr, sym, ◌∙◌, ap, subst, arith, get_or-set_same, get_or-set_other, length-set, append_assoc, append-nil, length-append}
 use Rattle.std.proofs.lemmas.Bool.{cases_eq}
 use Rattle.tm_seq.specs.Kind.{Kind}
+use Rattle.tm_batch.specs.declared.limits.TheConstants.{WINDOW}
 use Rattle.tm_batch.specs.declared.message.Request.{Request}
 use Rattle.tm_batch.specs.declared.message.Request.TheVariants.{Bye}
 use Rattle.tm_batch.specs.declared.message.AnswerBatch.{AnswerBatch}
@@ -38,7 +39,7 @@ module _ {V O R T : Type 0} where
   -- what a place sent and got of its own, and what is out
   pub record IsKept (opening : State V O R T) (c : ℕ) (slot : FullSlot V O R T) (log : List (Entry V O R T)) : Type 0 where
     pub enough : (id : ℕ) → gave id slot.sent ≤ came opening c slot.sent slot.got id
-    pub window : launches_in slot.sent ≤ 64 + ended_in slot.got
+    pub window : launches_in slot.sent ≤ WINDOW + ended_in slot.got
     pub ended : has_bye slot.sent ≡ true → launches_in slot.sent ≡ ended_in slot.got
     pub last : (before after : List (Request V O R T)) → slot.sent ≡ before ++ Bye ∷ after → after ≡ []
     pub out : IsOutInOrder opening c slot.box slot log

@@ -1,4 +1,5 @@
--- What is counted of requests and answers, where they are joined.
+-- What is counted of requests and answers (gifts, holds given away and brought, launches, Byes), where lists are joined.
+-- Other crates import from this file.
 use Rattle.std.proofs.Common.{◌≡◌, ℕ, ◌+◌, ◌≤◌, ◌⊎◌, true, cond, List, [], ◌∷◌, ◌++◌, length, inl, inr, refl, sym, ◌∙◌, ap, arith, append_assoc, add-zero, eq-eqb, ne_eqb}
 use Rattle.std.proofs.lemmas.Bool.{cases_eq}
 use Rattle.tm_batch.specs.declared.message.Name.{Name}

@@ -1,6 +1,7 @@
--- What the cells tell of which steps are allowed.
+-- The machine's tests on its cells decide which steps are allowed of the core that the cells show.
 use Rattle.std.proofs.Common.{◌≡◌, ◌↔◌, ℕ, ◌<◌, ◌≤◌, Bool, true, false, leb, ltb, IsTrue, Vec, Global, List, length, slice_index_or, refl, sym, ◌∙◌, ap, arith}
 use Rattle.std.proofs.lemmas.Bool.Decides.{nat_tests}
+use Rattle.tm_batch.specs.declared.limits.TheConstants.{MOST_REQUESTS}
 use Rattle.tm_model.specs.Slots.{Empty, Asked, Taken, Answered, slot_of}
 use Rattle.tm_core.specs.declared.cell.Content.{Content}
 use Rattle.tm_core.specs.declared.cell.Content.TheVariants.{Empty as Free, Asked as Out, Taken as InHand, Answered as Back}
@@ -70,7 +71,7 @@ module _ (cells : List Cell) (c : ℕ) where
       (λ h. grind (arith, nat_tests, places), λ lt. grind (arith, nat_tests, places))
 
   module _ (cell : Cell) (lt : c < length cells) (is : cell ≡ slice_index_or cells c cell) where
-    pub free_publish : (b : Vec ℕ Global) (n : ℕ) → cell.content ≡ Free → n ≡ length b.items → Tells cells (Publish c b) (leb n 16)
+    pub free_publish : (b : Vec ℕ Global) (n : ℕ) → cell.content ≡ Free → n ≡ length b.items → Tells cells (Publish c b) (leb n MOST_REQUESTS)
     unfolding Tells
     free_publish b n free many = λ core shown.
         let had = shown.slots c cell lt is in (

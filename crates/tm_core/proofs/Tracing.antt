@@ -1,4 +1,4 @@
--- The launches of a place have the tickets that were given out to it.
+-- The unfinished launches of a place are those under the tickets that were given out to it.
 use Rattle.std.proofs.Common.{◌≡◌, ◌≢◌, ℕ, ◌+◌, ◌-◌, ◌<◌, Bool, true, false, not, cond, ◌||◌, List, [], ◌∷◌, ◌++◌, length, inl, inr, refl, sym, ◌∙◌, ap, arith, eq-eqb, ne_eqb}
 use Rattle.std.specs.Prelude.{◌==◌}
 use Rattle.std.specs.List.{AllByRecursion, list_any}
@@ -17,7 +17,7 @@ use Rattle.tm_model.specs.declared.entry.Entry.TheVariants.{By, Resume, Sent}
 use Rattle.tm_model.specs.State.{Start, Work, Setup, Object, State, holds_of, with_holds, total, change, object_of}
 use Rattle.tm_model.specs.Serve.{value_advanced, works_resumed, works_in, served, completed, after}
 use Rattle.tm_model.specs.Legal.{HasFirst, Serves, MayCome}
-use Rattle.tm_core.proofs.Every.{weaker_first, first_both, found, all_both, all_weaker, all_filter, all-append, all_map}
+use Rattle.tm_core.proofs.CallerLemmas.{weaker_first, first_both, found, all_both, all_weaker, all_filter, all-append, all_map}
 use Rattle.tm_core.proofs.Bounds.{HasBounds, all_change}
 use Rattle.tm_core.proofs.Sound.{IsBounded}
 use Rattle.tm_core.proofs.Ordered.{IsOrdered}

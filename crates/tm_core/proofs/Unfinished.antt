@@ -1,4 +1,5 @@
--- How many unfinished launches of a place some objects have, where the objects change.
+-- The number of unfinished launches of a place, where the live objects are joined, mapped, changed or filtered.
+-- Other crates import from this file.
 use Rattle.std.proofs.Common.{◌≡◌, ◌≢◌, ℕ, ◌+◌, ◌<◌, true, false, cond, List, [], ◌∷◌, ◌++◌, length, map, inl, inr, refl, ap, arith, eq-eqb, ne_eqb}
 use Rattle.std.specs.Prelude.{◌==◌}
 use Rattle.std.specs.declared.option.Option.TheVariants.{Some}

@@ -8,6 +8,7 @@ use crate::cell::Cell;
 use crate::step::Step;
 use std::alloc::{AllocError, Global};
 use std::marker::Brand;
+use tm_batch::MOST_REQUESTS;
 use tm_ghost::{GhostList, Items};
 
 /// So many places at first.
@@ -41,7 +42,7 @@ fn may_publish(cells: &[Cell], client: u32, requests: &Vec<u64>) -> bool
         return false;
     }
     let cell = &cells[client as usize];
-    cell.is_free() && requests.len() <= 16
+    cell.is_free() && requests.len() <= MOST_REQUESTS
 }
 
 fn may_see(cells: &[Cell], client: u32) -> bool

@@ -3,12 +3,17 @@
 
 mod cell;
 mod cells;
+mod client_laws;
 mod kind_laws;
 mod laws;
 mod log_laws;
 mod machine;
 mod step;
 
+pub use client_laws::{
+    answers_are_as_many, answers_fit, batches_leave_at_fronts, fronts_agree, logs_tell_holds,
+    openings_give, tickets_come_first,
+};
 pub use kind_laws::{
     answer_keeps_good, batches_have_all_answers, batches_join, collect_keeps_good, first_is_good,
     growing_adds, legal_logs_join, publish_keeps_good, requests_are_numbered, see_keeps_good,

@@ -7,7 +7,7 @@ use tm_seq::Entrusted;
 
 /// A legal log leaves a sound state: ids and tickets are given out once, up to the last; each live
 /// object has a hold or unfinished work; no place has more holds on one object than a `u32` counts,
-/// and no more than 1,024 gifts wait for it.
+/// and no more than [`MOST_GIFTS`](tm_batch::MOST_GIFTS) gifts wait for it.
 pub fn states_are_sound<S: Entrusted>()
     ensures { StatesAreSound S.kind }
 {}
@@ -26,8 +26,8 @@ pub fn launches_are_latched<S: Entrusted>()
 
 /// A good core tells of each batch that is asked or taken, whatever is resumed first and answered to
 /// its earlier requests: each id that a request names is live and held by its place; unfinished
-/// launches, ready completions and launches of the batch are together at most 64; a Bye stands
-/// alone, and nothing follows one.
+/// launches, ready completions and launches of the batch are together at most
+/// [`WINDOW`](tm_batch::WINDOW); a Bye stands alone, and nothing follows one.
 pub fn batches_are_promised<S: Entrusted>()
     ensures { BatchesArePromised S.kind }
 {}

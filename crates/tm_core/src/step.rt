@@ -7,7 +7,7 @@ pub enum Step {
     Publish {
         /// Its place.
         client: u32,
-        /// The requests, at most 16.
+        /// The requests, at most [`MOST_REQUESTS`](tm_batch::MOST_REQUESTS).
         requests: Vec<u64>,
     },
     /// The trustee looks at a place, and takes a batch that was published.
@@ -33,7 +33,7 @@ pub enum Step {
 #[derive(Debug, Drop)]
 pub enum StepRefused {
     /// It is not allowed: the place is out of range, a batch is published over one that was not collected or has
-    /// more than 16 requests, or there is no batch in hand of as many requests as answers.
+    /// too many requests, or there is no batch in hand of as many requests as answers.
     NotAllowed(Step),
     /// It is allowed, and memory was wanting.
     NoMemory(Step),

@@ -77,3 +77,43 @@ fn one_place_step_by_step(rt: HostRuntime) -> Result<(), Fail> {
     assert_eq!(rt; core.sent(1).len(), 0);
     Ok(())
 }
+
+#[test]
+fn sixteen_requests_at_once(rt: HostRuntime) -> Result<(), Fail> {
+    let alloc = rt.alloc();
+    let mut core = Core::new(alloc, 1)?;
+    let mut requests = Vec::new(alloc);
+    let mut more = Vec::new(alloc);
+    let mut answers = Vec::new(alloc);
+    for request in 0..16u64 {
+        requests.push(request)?;
+        more.push(request)?;
+        answers.push(request + 100)?;
+    }
+    more.push(16)?;
+    assert_eq!(rt;
+        outcome(core.step(Step::Publish {
+            client: 0,
+            requests: more
+        })),
+        Fate::NotAllowed
+    );
+    assert_eq!(rt;
+        outcome(core.step(Step::Publish {
+            client: 0,
+            requests
+        })),
+        Fate::Made
+    );
+    assert_eq!(rt; outcome(core.step(Step::See { client: 0 })), Fate::Made);
+    assert_eq!(rt;
+        outcome(core.step(Step::Answer { client: 0, answers })),
+        Fate::Made
+    );
+    assert_eq!(rt;
+        core.ran(0),
+        [0, 1, 2, 3, 4, 5, 6, 7, 8, 9, 10, 11, 12, 13, 14, 15].as_slice()
+    );
+    assert_eq!(rt; outcome(core.step(Step::Collect { client: 0 })), Fate::Made);
+    Ok(())
+}

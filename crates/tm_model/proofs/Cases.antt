@@ -1,6 +1,5 @@
 -- Small logs of counters, worked by hand: what is legal, and the state and the answer batches that they leave.
-use Rattle.std.proofs.Common.{◌≡◌, ℕ, ◌<◌, ◌≤◌, true, false, List, [], ◌∷◌, ◌++◌, length, map, refl, ap, arith, inl, inr, lit<, lit≤}
-use Rattle.std.proofs.Math.ListN.{replicate}
+use Rattle.std.proofs.Common.{◌≡◌, ℕ, ◌<◌, ◌≤◌, true, List, [], ◌∷◌, ◌++◌, map, refl, ap, arith, inl, inr, lit<, lit≤}
 use Rattle.tm_seq.specs.Counting.{counter_kind}
 use Rattle.tm_seq.specs.declared.kind.Event.TheVariants.{Begin, Reply, NotAbove, NoObject}
 use Rattle.tm_seq.specs.declared.kind.Next.TheVariants.{Ask, Done}
@@ -17,7 +16,7 @@ use Rattle.tm_batch.specs.declared.message.Refusal.TheVariants.{ObjectsFull, Ser
 use Rattle.tm_batch.specs.declared.message.Request.{Request}
 use Rattle.tm_batch.specs.declared.message.Request.TheVariants.{Entrust, Apply, Launch, Grant, Release, Reclaim, Bye}
 use Rattle.tm_batch.specs.declared.message.AnswerBatch.{AnswerBatch}
-use Rattle.tm_batch.specs.declared.message.Answer.TheVariants.{Entrusted, NotEntrusted, Replied, Launched, TicketsSpent, Granted, Gone, GiftsFull, Released, Reclaimed, Shared, ByeDone}
+use Rattle.tm_batch.specs.declared.message.Answer.TheVariants.{Entrusted, NotEntrusted, Replied, Launched, TicketsSpent, Granted, Gone, Released, Reclaimed, Shared, ByeDone}
 use Rattle.tm_model.specs.declared.entry.Entry.{Entry}
 use Rattle.tm_model.specs.declared.entry.Entry.TheVariants.{By, Resume, Sent}
 use Rattle.tm_model.specs.State.{State, place_of, total, ids_above}
@@ -34,20 +33,20 @@ use Rattle.tm_model.specs.Good.{FullBox, FullSlot, FullCore, got_with, IsGood}
 use Rattle.tm_model.specs.Answering.{MayAnswerWith}
 use Rattle.tm_model.specs.Laws.{first_of}
 
-abbrev Log : Type 0
+abbrev pub Log : Type 0
 Log = List (Entry Counter CounterOp CounterReply CounterTask)
 
-abbrev counter : ℕ → Counter
+abbrev pub counter : ℕ → Counter
 counter n = record { value = n }
 
-abbrev named : ℕ → Name
+abbrev pub named : ℕ → Name
 named id = record { id = id; place = 0 }
 
 -- two clients and two trustees, and a counter of 5 on trustee 0 that client 0 holds
-abbrev config : Config
+abbrev pub config : Config
 config = record { clients = 2; trustees = 2; objects = 4; trusts = 4; last_id = 9 }
 
-abbrev opening : State Counter CounterOp CounterReply CounterTask
+abbrev pub opening : State Counter CounterOp CounterReply CounterTask
 opening = opening_of 0 config (record { trustee = 0; value = counter 5; holders = 0 ∷ [] } ∷ [])
 
 abbrev after_log : Log → State Counter CounterOp CounterReply CounterTask
@@ -119,29 +118,6 @@ grant_keeps_name = refl
 grant_of_name : MayCome counter_kind opening (By 0 0 (Grant (record { id = 1; place = 9 }) 1) Granted)
 grant_of_name = (lit< tt, refl, (lit≤ tt, lit< tt, (refl, elim [ inl h ↦ omega (arith, h) | inr h ↦ omega (arith, h) ])))
 
--- the greatest number of holds of one place
-abbrev crowded : State Counter CounterOp CounterReply CounterTask
-crowded = record opening { live = record { id = 1; value = counter 5; holds = 4294967295 ∷ 1 ∷ []; works = [] } ∷ [] }
-
-grant_to_most : MayCome counter_kind crowded (By 1 0 (Grant (named 1) 0) GiftsFull)
-grant_to_most = (lit< tt, refl, (lit≤ tt, lit< tt, (refl, inr (lit≤ tt))))
-
-grant_to_fewer : MayCome counter_kind crowded (By 0 0 (Grant (named 1) 1) Granted)
-grant_to_fewer = (lit< tt, refl, (lit≤ tt, lit< tt, (refl, elim [ inl h ↦ omega (arith, h) | inr h ↦ omega (arith, h) ])))
-
--- 1,024 gifts wait for client 1
-abbrev stacked : State Counter CounterOp CounterReply CounterTask
-stacked = record opening {
-  places = record { served = 0; is_closed = false; gifts = []; ready = [] }
-      ∷ record { served = 0; is_closed = false; gifts = replicate 1024 (named 1); ready = [] } ∷ [];
-}
-
-grant_over_1024 : MayCome counter_kind stacked (By 0 0 (Grant (named 1) 1) GiftsFull)
-grant_over_1024 = (lit< tt, refl, (lit≤ tt, lit< tt, (refl, inl (lit≤ tt))))
-
-grant_after_leaving : MayCome counter_kind (state_after counter_kind stacked (Sent 1 16 ∷ [])) (By 0 0 (Grant (named 1) 1) Granted)
-grant_after_leaving = (lit< tt, refl, (lit≤ tt, lit< tt, (refl, elim [ inl h ↦ omega (arith, h) | inr h ↦ omega (arith, h) ])))
-
 -- one object, one id and one ticket
 abbrev scarce : State Counter CounterOp CounterReply CounterTask
 scarce = opening_of 0 (record { clients = 2; trustees = 2; objects = 1; trusts = 4; last_id = 1 })
@@ -210,6 +186,9 @@ unheld-reply h = omega (arith, h.1.1)
 unknown-no_object : MayCome counter_kind (asked 9 0) (Resume 1 1 NoObject (Done Refused))
 unknown-no_object = (refl, (lit< tt, lit≤ tt), inl refl)
 
+unknown-reply : ¬ MayCome counter_kind (asked 9 0) (Resume 1 1 (Reply (Is 7)) (Done (Is 7)))
+unknown-reply h = omega (arith, h.1.1)
+
 -- an end for want of memory leaves the value
 lacking : MayCome counter_kind (asked 1 0) (Resume 1 1 (Reply (Is 7)) (Done NoMemory))
 lacking = (refl, (lit< tt, lit< tt), inr (refl, refl))
@@ -252,24 +231,8 @@ fronts-0 = refl
 fronts-1 : map (λ a. a.front) (batches counter_kind opening 1 two_batches) ≡ 5 ∷ []
 fronts-1 = refl
 
--- 17 completions and a gift wait for client 0
-abbrev waiting : State Counter CounterOp CounterReply CounterTask
-waiting = record opening {
-  places = record { served = 0; is_closed = false; gifts = named 1 ∷ []; ready = replicate 17 (record { ticket = 1; reply = Is 5 }) }
-      ∷ record { served = 0; is_closed = false; gifts = []; ready = [] } ∷ [];
-}
-
-abbrev leaving_count : ℕ → List (ℕ × ℕ)
-leaving_count room = map (λ a. (length a.gifts.items, length a.completions.items)) (batches counter_kind waiting 0 (Sent 0 room ∷ []))
-
-leaving-room : leaving_count 16 ≡ (1, 16) ∷ []
-leaving-room = refl
-
-leaving-no_room : leaving_count 0 ≡ (0, 16) ∷ []
-leaving-no_room = refl
-
 -- two objects go on beside each other, and completions are ready in the order of the ends
-abbrev pair : State Counter CounterOp CounterReply CounterTask
+abbrev pub pair : State Counter CounterOp CounterReply CounterTask
 pair = opening_of 0 config
     (record { trustee = 0; value = counter 5; holders = 0 ∷ 1 ∷ [] } ∷ record { trustee = 0; value = counter 6; holders = 0 ∷ [] } ∷ [])
 
@@ -310,23 +273,8 @@ spending-ids = refl
 again-ids : ids_given again ≡ 2 ∷ []
 again-ids = refl
 
--- 1,024 gifts of object 1 wait for client 1: none of object 2 may, until some have left, and then it is the last in line
-abbrev stacked_pair : State Counter CounterOp CounterReply CounterTask
-stacked_pair = record pair { places = stacked.places }
-
-grant_another_over_1024 : MayCome counter_kind stacked_pair (By 0 0 (Grant (named 2) 1) GiftsFull)
-grant_another_over_1024 = (lit< tt, refl, (lit≤ tt, lit< tt, (refl, inl (lit≤ tt))))
-
-grant_another_after_leaving : MayCome counter_kind (state_after counter_kind stacked_pair (Sent 1 16 ∷ [])) (By 0 0 (Grant (named 2) 1) Granted)
-grant_another_after_leaving = (lit< tt, refl, (lit≤ tt, lit< tt, (refl, elim [ inl h ↦ omega (arith, h) | inr h ↦ omega (arith, h) ])))
-
-another_is_last :
-    (place_of (state_after counter_kind stacked_pair (Sent 1 16 ∷ By 0 0 (Grant (named 2) 1) Granted ∷ [])) 1).gifts
-    ≡ replicate 1008 (named 1) ++ named 2 ∷ []
-another_is_last = refl
-
 -- a reclaim that is refused brings its own hold back, and no other
-abbrev Requests : Type 0
+abbrev pub Requests : Type 0
 Requests = List (Request Counter CounterOp CounterReply CounterTask)
 
 abbrev two_reclaims : Requests

@@ -1,4 +1,5 @@
 pub mod Byes
 pub mod Cases
+pub mod Limits
 pub mod Overlaps
 pub mod Running

@@ -1,6 +1,7 @@
 -- The answer batches that left for a place.
 use Rattle.std.specs.Prelude.{ℕ, ◌+◌, ◌-◌, ◌^◌, ◌==◌, min, cond, List, [], ◌∷◌, ◌++◌, take}
 use Rattle.tm_seq.specs.Kind.{Kind}
+use Rattle.tm_batch.specs.declared.limits.TheConstants.{MOST_COMPLETIONS}
 use Rattle.tm_batch.specs.declared.message.Answer.{Answer}
 use Rattle.tm_batch.specs.declared.message.AnswerBatch.{AnswerBatch}
 use Rattle.tm_model.specs.declared.entry.Entry.{Entry}
@@ -16,7 +17,7 @@ module _ {V O R T : Type 0} where
     front = min front (2 ^ 64 - 1);
     answers = record { items = answers };
     gifts = record { items = take room (place_of s c).gifts };
-    completions = record { items = take 16 (place_of s c).ready };
+    completions = record { items = take MOST_COMPLETIONS (place_of s c).ready };
   }
 
   -- the answer batches that leave for place c by some entries, behind `n` entries that leave a state and answers that have not left

@@ -1,6 +1,7 @@
 -- What holds of a trustee's slots and log between any two steps.
 use Rattle.std.specs.Prelude.{◌≡◌, ◌≢◌, ℕ, ◌+◌, ◌<◌, ◌≤◌, true, List, [], ◌∷◌, ◌++◌, length}
 use Rattle.tm_seq.specs.Kind.{Kind}
+use Rattle.tm_batch.specs.declared.limits.TheConstants.{MOST_REQUESTS, MOST_ROOM, MOST_COMPLETIONS, WINDOW}
 use Rattle.tm_batch.specs.declared.message.Request.{Request}
 use Rattle.tm_batch.specs.declared.message.Request.TheVariants.{Bye}
 use Rattle.tm_batch.specs.declared.message.AnswerBatch.{AnswerBatch}
@@ -42,21 +43,21 @@ module _ {V O R T : Type 0} where
   got_with (Taken b room) got = got
   got_with (Answered a upto room) got = got ++ a ∷ []
 
-  -- answers in a slot: as many as the batch had requests, no more gifts than its room, and at most 16 completions; the log up to them
+  -- answers in a slot: as many as the batch had requests, no more gifts than its room, and completions no more than may leave; the log up to them
   -- goes on from the seen log by others, and ends with the entries of the batch, numbered from all that stands before them
   pub record IsAnswer (c : ℕ) (slot : FullSlot V O R T) (a : AnswerBatch V O R T) (upto : List (Entry V O R T)) (room : ℕ) : Type 0 where
-    pub most_gifts : room ≤ 16
+    pub most_gifts : room ≤ MOST_ROOM
     pub gifts : length a.gifts.items ≤ room
-    pub completions : length a.completions.items ≤ 16
+    pub completions : length a.completions.items ≤ MOST_COMPLETIONS
     pub answers : (b : List (Request V O R T)) × (others : List (Entry V O R T))
-        × (slot.sent ≡ ran c (slot.seen ++ others) ++ b) × (length b ≤ 16) × (length a.answers.items ≡ length b)
+        × (slot.sent ≡ ran c (slot.seen ++ others) ++ b) × (length b ≤ MOST_REQUESTS) × (length a.answers.items ≡ length b)
         × (upto ≡ slot.seen ++ others ++ batch_entries (slot.seen ++ others) c b room a.answers.items)
 
   -- a batch that is out was orderly, and answers that stand there are those of such a batch
   abbrev pub IsOutInOrder : State V O R T → ℕ → FullBox V O R T → FullSlot V O R T → List (Entry V O R T) → Type 0
   IsOutInOrder opening c Empty slot log = Unit {0}
-  IsOutInOrder opening c (Asked b room) slot log = IsOrderly opening c (ran c log) slot.got b × (length b ≤ 16) × (room ≤ 16)
-  IsOutInOrder opening c (Taken b room) slot log = IsOrderly opening c (ran c log) slot.got b × (length b ≤ 16) × (room ≤ 16)
+  IsOutInOrder opening c (Asked b room) slot log = IsOrderly opening c (ran c log) slot.got b × (length b ≤ MOST_REQUESTS) × (room ≤ MOST_ROOM)
+  IsOutInOrder opening c (Taken b room) slot log = IsOrderly opening c (ran c log) slot.got b × (length b ≤ MOST_REQUESTS) × (room ≤ MOST_ROOM)
   IsOutInOrder opening c (Answered a upto room) slot log = IsAnswer c slot a upto room
 
   -- what place c holds, what it is owed and what it still may send, behind a log that leaves the state s
@@ -70,8 +71,8 @@ module _ {V O R T : Type 0} where
     -- each launch that it sent is not yet run, unfinished, ready, or ended by what left for it
     pub launches : launches_in slot.sent
         ≡ launches_in (unserved slot.box) + unfinished c s.live + length (place_of s c).ready + ended_in (got_with slot.box slot.got)
-    -- at most 64 of them have not ended by what it got, and none where it sent a Bye
-    pub window : launches_in slot.sent ≤ 64 + ended_in slot.got
+    -- no more of them than the window have not ended by what it got, and none where it sent a Bye
+    pub window : launches_in slot.sent ≤ WINDOW + ended_in slot.got
     pub ended : has_bye slot.sent ≡ true → launches_in slot.sent ≡ ended_in slot.got
     -- a Bye is the last that it sent
     pub last : (before after : List (Request V O R T)) → slot.sent ≡ before ++ Bye ∷ after → after ≡ []

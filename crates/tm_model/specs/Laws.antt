@@ -6,6 +6,7 @@ use Rattle.std.specs.List.Sorted.{IsStrictlyIncreasing}
 use Rattle.tm_seq.specs.Kind.{Kind, IsRun, IsResume}
 use Rattle.tm_seq.specs.declared.kind.Event.{Event}
 use Rattle.tm_seq.specs.declared.kind.Next.{Next}
+use Rattle.tm_batch.specs.declared.limits.TheConstants.{WINDOW, MOST_GIFTS}
 use Rattle.tm_batch.specs.declared.message.Name.{Name}
 use Rattle.tm_batch.specs.declared.config.Config.{Config}
 use Rattle.tm_batch.specs.declared.config.First.{First}
@@ -66,7 +67,7 @@ module _ {V O R T : Type 0} where
     pub most : length s.live ≤ s.setup.config.objects
     -- lists by place are as long as there are places
     pub places : length s.places ≡ place_count opening.setup
-    pub gifts : AllByRecursion (λ p. length p.gifts ≤ 1024) s.places
+    pub gifts : AllByRecursion (λ p. length p.gifts ≤ MOST_GIFTS) s.places
 
   module _ (kind : Kind V O R T) where
     -- a legal log leaves a sound state
@@ -203,7 +204,7 @@ module _ {V O R T : Type 0} where
           → IsLegal kind opening (log ++ (resumes ++ entries_by c (length (ran c log)) before answers))
           → IsHeld (state_after kind opening (log ++ (resumes ++ entries_by c (length (ran c log)) before answers))) c id
       pub grants : AllByRecursion (GrantsBelow opening.setup.config.clients) b
-      pub launches : unfinished c (state_after kind opening log).live + length (place_of (state_after kind opening log) c).ready + launches_in b ≤ 64
+      pub launches : unfinished c (state_after kind opening log).live + length (place_of (state_after kind opening log) c).ready + launches_in b ≤ WINDOW
       pub trustee : opening.setup.config.clients ≤ c → AllByRecursion IsOfTrustee b
       pub bye : has_bye b ≡ true
           → (b ≡ Bye ∷ []) × (unfinished c (state_after kind opening log).live ≡ 0) × (length (place_of (state_after kind opening log) c).ready ≡ 0)

@@ -3,6 +3,7 @@ use Rattle.std.specs.Prelude.{◌≡◌, ℕ, ◌<◌, ◌≤◌, ◌⊎◌, Lis
 use Rattle.tm_seq.specs.Kind.{Kind, IsRun, IsResume}
 use Rattle.tm_seq.specs.declared.kind.Event.{Event}
 use Rattle.tm_seq.specs.declared.kind.Event.TheVariants.{Begin, Reply, NotAbove, NoObject}
+use Rattle.tm_batch.specs.declared.limits.TheConstants.{MOST_ROOM, MOST_GIFTS, MOST_HOLDS}
 use Rattle.tm_batch.specs.declared.message.Refusal.TheVariants.{ObjectsFull, SerialsSpent}
 use Rattle.tm_batch.specs.declared.message.Request.{Request}
 use Rattle.tm_batch.specs.declared.message.Request.TheVariants.{Entrust, Apply, Launch, Grant, Release, Reclaim, Bye}
@@ -36,7 +37,7 @@ module _ {V O R T : Type 0} where
 
   -- no further gift of an object may wait for a place
   abbrev pub IsGiftRefused : State V O R T → ℕ → Object V T → Type 0
-  IsGiftRefused s d o = (1024 ≤ length (place_of s d).gifts) ⊎ (4294967295 ≤ holds_of o d)
+  IsGiftRefused s d o = (MOST_GIFTS ≤ length (place_of s d).gifts) ⊎ (MOST_HOLDS ≤ holds_of o d)
 
   -- Grant: closed, else full, else granted
   abbrev ServesGrant : State V O R T → ℕ → ℕ → Answer V O R T → Type 0
@@ -82,7 +83,7 @@ module _ {V O R T : Type 0} where
   MayCome kind s (Resume id ticket event next) =
       HasObject s id (λ o. HasFirst o.works (λ w. (w.ticket ≡ ticket) × IsAwaited s.setup w.awaits event
       × IsResume kind o.value w.task event (value_resumed kind o.value w.task event next) next))
-  MayCome kind s (Sent c room) = (c < place_count s.setup) × (room ≤ 16)
+  MayCome kind s (Sent c room) = (c < place_count s.setup) × (room ≤ MOST_ROOM)
 
   -- each entry of a log may come in the state that the entries before it leave
   abbrev pub IsLegal : Kind V O R T → State V O R T → List (Entry V O R T) → Type 0

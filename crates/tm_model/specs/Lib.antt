@@ -17,3 +17,5 @@ pub mod Good
 pub mod Answering
 pub mod Laws
 pub mod Leaving
+pub mod Fits
+pub mod ClientLaws

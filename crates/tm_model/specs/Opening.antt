@@ -2,6 +2,7 @@
 use Rattle.std.specs.Prelude.{◌≢◌, ℕ, ◌+◌, ◌<◌, ◌≤◌, ◌==◌, nat_eq, nat_lt, Bool, cond, List, [], ◌∷◌, length, map, filter, count_by}
 use Rattle.std.specs.List.{AllByRecursion, IsDistinct, list_any, range_with_len}
 use Rattle.std.proofs.Math.ListN.{replicate}
+use Rattle.tm_batch.specs.declared.limits.TheConstants.{MOST_CLIENTS, FEWEST_TRUSTEES, MOST_TRUSTEES, MOST_OBJECTS, MOST_TRUSTS}
 use Rattle.tm_batch.specs.declared.config.Config.{Config}
 use Rattle.tm_batch.specs.declared.config.First.{First}
 use Rattle.tm_model.specs.State.{Object, State, no_place}
@@ -26,10 +27,10 @@ module _ {V : Type 0} where
 
   -- a runtime may be built from a config and a list of objects
   pub record IsBuildable (config : Config) (first : List (First V)) : Type 0 where
-    pub clients : (1 ≤ config.clients) × (config.clients ≤ 64)
-    pub trustees : (2 ≤ config.trustees) × (config.trustees ≤ 32)
-    pub objects : (1 ≤ config.objects) × (config.objects ≤ 4096)
-    pub trusts : (1 ≤ config.trusts) × (config.trusts ≤ 4096)
+    pub clients : (1 ≤ config.clients) × (config.clients ≤ MOST_CLIENTS)
+    pub trustees : (FEWEST_TRUSTEES ≤ config.trustees) × (config.trustees ≤ MOST_TRUSTEES)
+    pub objects : (1 ≤ config.objects) × (config.objects ≤ MOST_OBJECTS)
+    pub trusts : (1 ≤ config.trusts) × (config.trusts ≤ MOST_TRUSTS)
     pub last_id : 1 ≤ config.last_id
     -- each object is placed on a trustee
     pub trustee : AllByRecursion (λ f. f.trustee < config.trustees) first

@@ -1,6 +1,7 @@
 -- Which batches a place may send.
 use Rattle.std.specs.Prelude.{◌≡◌, ℕ, ◌+◌, ◌<◌, ◌≤◌, true, List, [], ◌∷◌, ◌++◌}
 use Rattle.std.specs.List.{AllByRecursion}
+use Rattle.tm_batch.specs.declared.limits.TheConstants.{WINDOW}
 use Rattle.tm_batch.specs.declared.message.Request.{Request}
 use Rattle.tm_batch.specs.declared.message.Request.TheVariants.{Apply, Grant, Bye}
 use Rattle.tm_batch.specs.declared.message.AnswerBatch.{AnswerBatch}
@@ -27,8 +28,8 @@ module _ {V O R T : Type 0} where
         → b ≡ before ++ q ∷ after → Names q id → gave id (sent ++ before) < came opening c sent got id
     -- grants are to clients
     pub grants : AllByRecursion (GrantsBelow opening.setup.config.clients) b
-    -- at most 64 launches lack their completion
-    pub launches : launches_in (sent ++ b) ≤ 64 + ended_in got
+    -- no more launches than the window lack their completion
+    pub launches : launches_in (sent ++ b) ≤ WINDOW + ended_in got
     -- a Bye stands alone, when no launch lacks its completion
     pub bye : has_bye b ≡ true → (b ≡ Bye ∷ []) × (launches_in sent ≡ ended_in got)
     -- nothing follows a Bye

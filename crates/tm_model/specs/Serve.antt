@@ -6,6 +6,7 @@ use Rattle.tm_seq.specs.Kind.{Kind}
 use Rattle.tm_seq.specs.declared.kind.Event.{Event}
 use Rattle.tm_seq.specs.declared.kind.Next.{Next}
 use Rattle.tm_seq.specs.declared.kind.Next.TheVariants.{Ask, Done}
+use Rattle.tm_batch.specs.declared.limits.TheConstants.{MOST_COMPLETIONS}
 use Rattle.tm_batch.specs.declared.message.Name.{Name}
 use Rattle.tm_batch.specs.declared.message.Request.{Request}
 use Rattle.tm_batch.specs.declared.message.Request.TheVariants.{Entrust, Apply, Launch, Grant, Release, Reclaim, Bye}
@@ -101,7 +102,7 @@ module _ {V O R T : Type 0} where
 
   -- the state after the gifts and completions that waited longest for place c left
   abbrev pub sent_off : ℕ → ℕ → State V O R T → State V O R T
-  sent_off c room s = with_place c (let p = place_of s c in record p { gifts = drop room p.gifts; ready = drop 16 p.ready }) s
+  sent_off c room s = with_place c (let p = place_of s c in record p { gifts = drop room p.gifts; ready = drop MOST_COMPLETIONS p.ready }) s
 
   -- the state after an entry
   abbrev pub after : Kind V O R T → State V O R T → Entry V O R T → State V O R T

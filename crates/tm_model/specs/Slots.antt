@@ -1,6 +1,7 @@
 -- The slots of a trustee and the log behind them, over any requests Q, answer batches G and log entries E.
 use Rattle.std.specs.Prelude.{◌≡◌, ℕ, ◌+◌, ◌<◌, ◌≤◌, Bool, true, false, not, List, [], ◌∷◌, ◌++◌, length, slice_index_or, slice_set}
 use Rattle.std.proofs.Math.ListN.{replicate}
+use Rattle.tm_batch.specs.declared.limits.TheConstants.{MOST_REQUESTS, MOST_ROOM}
 
 -- what stands in a slot: nothing, a batch that was asked or taken with its room, or answers, with the log up to them and the room of their batch
 pub data Box (Q G E : Type 0) : Type 0 where
@@ -69,8 +70,8 @@ module _ {Q G E : Type 0} where
   pub record MayPublish (core : Core Q G E) (c : ℕ) (b : List Q) (room : ℕ) : Type 0 where
     pub in_range : c < length core.slots
     pub is_empty : (slot_of core c).box ≡ Empty
-    pub most : length b ≤ 16
-    pub most_gifts : room ≤ 16
+    pub most : length b ≤ MOST_REQUESTS
+    pub most_gifts : room ≤ MOST_ROOM
 
   abbrev pub published : List Q → ℕ → Slot Q G E → Slot Q G E
   published b room slot = record slot {

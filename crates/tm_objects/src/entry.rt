@@ -1,6 +1,7 @@
 //! One entrusted object.
 ghost use Rattle.std.specs.Prelude.{◌≡◌, ◌+◌, ◌-◌, ◌<◌, ◌≤◌, ◌^◌, ◌∷◌, length, sum, slice_set};
 ghost use Rattle.std.specs.Borrow.{Lends, sem};
+ghost use Rattle.tm_batch.specs.declared.limits.TheConstants.{MOST_HOLDS};
 ghost use Rattle.tm_objects.specs.Live.{holds_of, total, with_holds, with_launches, with_value};
 
 use std::marker::Model;
@@ -72,7 +73,7 @@ impl<V> Entry<V> {
     /// Adds a hold of a place.
     pub fn add_hold(&mut self, place: usize)
         requires place { place < length self.old.holds }
-        requires count { holds_of self.old place < 4294967295 }
+        requires count { holds_of self.old place < MOST_HOLDS }
         requires total { total self.old < 18446744073709551615 }
         ensures { self.new ≡ with_holds place (holds_of self.old place + 1) self.old }
     {

@@ -1,14 +1,12 @@
 //! The gifts that wait.
 ghost use Rattle.std.specs.Prelude.{◌≡◌, ◌<◌, ◌≤◌, ◌↔◌, [], ◌∷◌, ◌++◌, drop, length, All, replicate, slice_get, slice_set, IsTrue, IfOk};
+ghost use Rattle.tm_batch.specs.declared.limits.TheConstants.{MOST_GIFTS};
 ghost use Rattle.tm_objects.specs.Stock.{gifts_of};
 
 use circular_buffer::HeapCircularBuffer;
 use std::alloc::{AllocError, Global};
 use std::marker::Model;
-use tm_batch::Name;
-
-/// How many gifts may wait for one place.
-const MOST_GIFTS: usize = 1024;
+use tm_batch::{MOST_GIFTS, Name};
 
 /// A queue of gifts for each place, with room for all that may wait.
 #[derive(Drop)]
@@ -18,13 +16,14 @@ pub struct GiftQueues {
 
 impl Model for GiftQueues {
     ghost use Rattle.std.specs.Prelude.{◌≡◌, ◌≤◌, List, length, map, All};
+    ghost use Rattle.tm_batch.specs.declared.limits.TheConstants.{MOST_GIFTS};
     ghost use Rattle.tm_batch.specs.declared.message.Name.{Name};
 
     ghost Value = { List (List Name) };
 
     ghost view = { λ a. map (λ q. q.items) a.queues.items };
 
-    ghost invariant = { λ a. All (λ n. n ≡ 1024) (map (λ q. q.capacity) a.queues.items) × All (λ gifts. length gifts ≤ 1024) (map (λ q. q.items) a.queues.items) };
+    ghost invariant = { λ a. All (λ n. n ≡ MOST_GIFTS) (map (λ q. q.capacity) a.queues.items) × All (λ gifts. length gifts ≤ MOST_GIFTS) (map (λ q. q.items) a.queues.items) };
 }
 
 impl GiftQueues {
@@ -39,9 +38,9 @@ impl GiftQueues {
         Ok(GiftQueues { queues })
     }
 
-    /// At most 1,024 gifts wait for each place. Nothing runs.
+    /// At most [`MOST_GIFTS`] gifts wait for each place. Nothing runs.
     pub fn known(&self)
-        ensures { All (λ gifts. length gifts ≤ 1024) self.now }
+        ensures { All (λ gifts. length gifts ≤ MOST_GIFTS) self.now }
     {
         let _queues = &self.queues;
     }
@@ -49,7 +48,7 @@ impl GiftQueues {
     /// Whether no further gift may wait for a place.
     pub fn is_full(&self, place: u32) -> bool
         requires { place < length self.now }
-        ensures { IsTrue result ↔ (1024 ≤ length (gifts_of self.now place)) }
+        ensures { IsTrue result ↔ (MOST_GIFTS ≤ length (gifts_of self.now place)) }
     {
         self.queues[place as usize].len() >= MOST_GIFTS
     }
@@ -57,7 +56,7 @@ impl GiftQueues {
     /// Lets a gift wait, behind those that do.
     pub fn push(&mut self, place: u32, gift: Name)
         requires place { place < length self.old }
-        requires room { length (gifts_of self.old place) < 1024 }
+        requires room { length (gifts_of self.old place) < MOST_GIFTS }
         ensures { self.new ≡ slice_set self.old place (gifts_of self.old place ++ gift ∷ []) }
     {
         let _ = self.queues[place as usize].try_push_back(gift);

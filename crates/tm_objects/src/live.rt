@@ -1,6 +1,7 @@
 //! All live objects of a trustee.
 ghost use Rattle.std.specs.Prelude.{◌≡◌, ◌+◌, ◌-◌, ◌<◌, ◌≤◌, ◌↔◌, [], ◌∷◌, ◌++◌, map, length, IsTrue, IsSome, IfOk};
 ghost use Rattle.std.specs.Borrow.{sem};
+ghost use Rattle.tm_batch.specs.declared.limits.TheConstants.{MOST_HOLDS};
 ghost use Rattle.tm_objects.specs.Left.{left_of};
 ghost use Rattle.tm_objects.specs.Rising.{IsRising};
 ghost use Rattle.tm_objects.specs.Live.{object_of, holds_of, total, with_holds, with_launches, first_held, change, kept, without, HasLive, count_in, total_in};
@@ -122,6 +123,18 @@ impl<V: Drop> LiveObjects<V> {
         locate(&self.slots, name).is_some()
     }
 
+    /// The name with the place where its object stands, by which other calls find it at once.
+    pub fn placed(&self, name: Name) -> Name
+        requires { IsSome (object_of self.now.live name.id) }
+        ensures { result.id ≡ name.id }
+    {
+        let key = key_of(&self.slots, name);
+        Name {
+            id: name.id,
+            place: u32::try_from(key).unwrap_or(u32::MAX),
+        }
+    }
+
     /// How many holds a place has on an object.
     pub fn count(&self, name: Name, place: u32) -> u32
         requires live { IsSome (object_of self.now.live name.id) }
@@ -143,7 +156,7 @@ impl<V: Drop> LiveObjects<V> {
 
     /// Adds a hold of a place.
     pub fn hold(&mut self, name: Name, place: u32)
-        requires live { HasLive self.old.live name.id (λ o. (holds_of o place < 4294967295) × (total o < 18446744073709551615)) }
+        requires live { HasLive self.old.live name.id (λ o. (holds_of o place < MOST_HOLDS) × (total o < 18446744073709551615)) }
         requires place { place < self.old.places }
         ensures { self.new ≡ record self.old { live = change name.id (λ o. with_holds place (holds_of o place + 1) o) self.old.live } }
     {

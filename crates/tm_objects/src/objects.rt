@@ -1,6 +1,7 @@
 //! The entrusted objects of one trustee, with the gifts that wait.
 ghost use Rattle.std.specs.Prelude.{◌≡◌, ◌≢◌, ◌+◌, ◌-◌, ◌<◌, ◌≤◌, ◌↔◌, length, true, false, IsTrue, IsSome, IfOk, IsOkAnd, IsErr, Ok, Err, slice_get};
 ghost use Rattle.std.specs.Borrow.{sem};
+ghost use Rattle.tm_batch.specs.declared.limits.TheConstants.{MOST_GIFTS, MOST_HOLDS};
 ghost use Rattle.tm_batch.specs.declared.message.Refusal.TheVariants.{ObjectsFull, SerialsSpent};
 ghost use Rattle.tm_objects.specs.Left.{left_of};
 ghost use Rattle.tm_objects.specs.Rising.{IsStock};
@@ -12,7 +13,7 @@ use crate::left::Left;
 use crate::live::LiveObjects;
 use std::alloc::{AllocError, Global};
 use std::marker::Model;
-use tm_batch::{Name, Refusal};
+use tm_batch::{MOST_HOLDS, Name, Refusal};
 use tm_seq::Entrusted;
 
 /// Why a value was not given back: there is another hold on it, or a launch.
@@ -73,7 +74,7 @@ impl<S: Entrusted> Objects<S> {
 
     /// What holds at any time: at most as many objects are live as may be, and they have rising ids
     /// below the next one, a count of 32 bits for each place, and a hold or a launch; and at most
-    /// 1,024 gifts wait for each place. Nothing runs.
+    /// [`MOST_GIFTS`](tm_batch::MOST_GIFTS) gifts wait for each place. Nothing runs.
     pub fn known(&self)
         ensures { IsStock self.now }
     {
@@ -122,19 +123,24 @@ impl<S: Entrusted> Objects<S> {
         self.live.is_live(name)
     }
 
-    /// Adds a hold of a place, and a gift that waits for it. It is refused where 1,024 gifts wait for
-    /// the place, or it has 4,294,967,295 holds on the object.
+    /// Adds a hold of a place, and a gift that waits for it. It is refused where
+    /// [`MOST_GIFTS`](tm_batch::MOST_GIFTS) gifts wait for the place, or it has [`MOST_HOLDS`] holds
+    /// on the object.
     pub fn grant(&mut self, name: Name, to: u32) -> bool
         requires live { HasLive self.old.live name.id (λ o. total o < 18446744073709551615) }
         requires place { to < length self.old.gifts }
-        ensures granted { length (gifts_of self.old.gifts to) < 1024 → count_in (object_of self.old.live name.id) to < 4294967295 → (result ≡ true) × (self.new ≡ granted name to self.old) }
-        ensures waiting { 1024 ≤ length (gifts_of self.old.gifts to) → (result ≡ false) × (self.new ≡ self.old) }
-        ensures held { 4294967295 ≤ count_in (object_of self.old.live name.id) to → (result ≡ false) × (self.new ≡ self.old) }
+        ensures granted { length (gifts_of self.old.gifts to) < MOST_GIFTS → count_in (object_of self.old.live name.id) to < MOST_HOLDS → (result ≡ true) × (self.new ≡ granted name to self.old) }
+        ensures waiting { MOST_GIFTS ≤ length (gifts_of self.old.gifts to) → (result ≡ false) × (self.new ≡ self.old) }
+        ensures held { MOST_HOLDS ≤ count_in (object_of self.old.live name.id) to → (result ≡ false) × (self.new ≡ self.old) }
     {
-        if self.gifts.is_full(to) || self.live.count(name, to) == u32::MAX {
+        if self.gifts.is_full(to) {
             return false;
         }
-        self.live.hold(name, to);
+        let found = self.live.placed(name);
+        if self.live.count(found, to) == MOST_HOLDS {
+            return false;
+        }
+        self.live.hold(found, to);
         self.gifts.push(to, name);
         true
     }
@@ -182,10 +188,11 @@ impl<S: Entrusted> Objects<S> {
         ensures last { total_in (object_of self.old.live name.id) ≡ 1 → IsOkAnd result (λ v. HasLive self.old.live name.id (λ o. v ≡ o.value)) × (self.new ≡ reclaimed name.id self.old) }
         ensures more { total_in (object_of self.old.live name.id) ≢ 1 → IsErr result × (self.new ≡ self.old) }
     {
-        if self.live.total(name) != 1 {
+        let found = self.live.placed(name);
+        if self.live.total(found) != 1 {
             return Err(More);
         }
-        Ok(self.live.take_out(name, place))
+        Ok(self.live.take_out(found, place))
     }
 
     /// The value of an object.

@@ -148,6 +148,22 @@ fn never_gives_an_id_again(rt: HostRuntime) -> Result<(), Fail> {
 }
 
 #[test]
+fn as_many_objects_live_as_may(rt: HostRuntime) -> Result<(), Fail> {
+    let mut few = Few::new(rt.alloc(), 4096, 5000, 2)?;
+    let first = few.entrust(0, 1).unwrap_or_default();
+    for want in 2..4097u64 {
+        let name = few.entrust(1, want).unwrap_or_default();
+        assert_eq!(rt; name.id, want);
+    }
+    assert_eq!(rt; few.refusal(7), Some((Refusal::ObjectsFull, 7)));
+    assert_eq!(rt; few.drop_client(1), Some(4095));
+    assert_eq!(rt; few.reclaim(first, 0), Some(1));
+    let name = few.entrust(0, 6).unwrap_or_default();
+    assert_eq!(rt; name.id, 4097);
+    Ok(())
+}
+
+#[test]
 fn gifts_leave_in_order_and_their_holds_stay(rt: HostRuntime) -> Result<(), Fail> {
     let mut few = Few::new(rt.alloc(), 4, 9, 2)?;
     let first = few.entrust(0, 1).unwrap_or_default();
@@ -215,6 +231,7 @@ fn the_id_alone_names_an_object(rt: HostRuntime) -> Result<(), Fail> {
     let mut few = Few::new(rt.alloc(), 2, 9, 2)?;
     let first = few.entrust(0, 1).unwrap_or_default();
     let second = few.entrust(0, 2).unwrap_or_default();
+    assert!(rt; second.place != first.place);
     let elsewhere = Name {
         id: second.id,
         place: first.place,

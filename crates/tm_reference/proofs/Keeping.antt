@@ -1,10 +1,10 @@
--- What a plain trustee keeps: ids rise, and there are as many places.
+-- What a reference trustee keeps: ids rise, and there are as many places.
 use Rattle.std.proofs.Common.{◌≡◌, ℕ, ◌+◌, ◌<◌, ◌≤◌, zero, suc, Bool, true, false, cond, List, [], ◌∷◌, ◌++◌, length, length-set, append-nil, take, drop, map, filter, slice_index_or, slice_set, sym, ◌∙◌, ap, subst, arith}
 use Rattle.std.specs.List.{AllByRecursion, remove}
 use Rattle.std.proofs.lemmas.List.{take_all, drop_all}
 use Rattle.tm_model.specs.State.{Object, Place, with_holds}
 use Rattle.tm_reference.specs.Live.{Rises, Holds}
-use Rattle.tm_reference.specs.Plain.{IsKept}
+use Rattle.tm_reference.specs.Kept.{IsKept}
 
 -- a change of each element, where none is left
 pub mapped_all : {X : Type 0} (f : X → X) (xs ys : List X) (i : ℕ) → length xs ≤ i → ys ≡ map f (take i xs) ++ drop i xs → ys ≡ map f xs

@@ -4,6 +4,7 @@ use Rattle.std.specs.List.{remove}
 use Rattle.std.proofs.Math.Nat.{min-zero, suc-min-suc}
 use Rattle.std.proofs.lemmas.List.{get_or_default}
 use Rattle.tm_seq.specs.Kind.{Kind}
+use Rattle.tm_batch.specs.declared.limits.TheConstants.{MOST_COMPLETIONS}
 use Rattle.tm_model.specs.declared.entry.Entry.TheVariants.{Sent}
 use Rattle.tm_model.specs.State.{Place, State, no_place, place_of}
 use Rattle.tm_model.specs.Serve.{after}
@@ -54,10 +55,10 @@ module _ {V O R T : Type 0} where
 
   pub sends :
       (kind : Kind V O R T) {v s : State V O R T} → v ≡ s → (c room : ℕ) (p q : Place V O R T) → c < length v.places
-      → p ≡ slice_index_or v.places c p → q ≡ record p { gifts = drop room p.gifts; ready = drop 16 p.ready }
+      → p ≡ slice_index_or v.places c p → q ≡ record p { gifts = drop room p.gifts; ready = drop MOST_COMPLETIONS p.ready }
       → record v { places = slice_set v.places c q } ≡ after kind s (Sent c room)
   sends kind {v} {s} e c room p q within at is =
       let here : p ≡ place_of v c = at ∙ get_or_default v.places c p no_place within in
       ap (λ (z : Place V O R T). record v { places = slice_set v.places c z })
-      (is ∙ ap (λ (z : Place V O R T). record z { gifts = drop room z.gifts; ready = drop 16 z.ready }) here)
+      (is ∙ ap (λ (z : Place V O R T). record z { gifts = drop room z.gifts; ready = drop MOST_COMPLETIONS z.ready }) here)
       ∙ ap (λ (t : State V O R T). after kind t (Sent c room)) e

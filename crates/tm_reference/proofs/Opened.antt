@@ -11,7 +11,7 @@ use Rattle.tm_batch.specs.declared.config.Config.{Config}
 use Rattle.tm_model.specs.State.{Object, Place, State, no_place}
 use Rattle.tm_model.specs.Opening.{is_named, placed_on, ids_naming, opened, opening_of}
 use Rattle.tm_reference.specs.Live.{Rises}
-use Rattle.tm_reference.specs.Plain.{IsKept}
+use Rattle.tm_reference.specs.Kept.{IsKept}
 use Rattle.tm_reference.specs.Opens.{all_above}
 
 module _ {V : Type 0} where

@@ -7,6 +7,7 @@ use Rattle.std.specs.declared.option.Option.TheVariants.{Some}
 use Rattle.std.specs.declared.result.Result.TheVariants.{Ok}
 use Rattle.std.proofs.lemmas.List.{get_or_default}
 use Rattle.tm_seq.specs.Kind.{Kind, KindLaws, IsRun}
+use Rattle.tm_batch.specs.declared.limits.TheConstants.{MOST_GIFTS, MOST_HOLDS}
 use Rattle.tm_batch.specs.declared.message.Name.{Name}
 use Rattle.tm_batch.specs.declared.message.Request.TheVariants.{Entrust, Apply, Launch, Grant, Release, Reclaim}
 use Rattle.tm_batch.specs.declared.message.Answer.TheVariants.{Entrusted, Replied, Launched, Granted, Released, Reclaimed}
@@ -91,7 +92,7 @@ module _ {V O R T : Type 0} where
   grant-core :
       (kind : Kind V O R T) (s : State V O R T) (c i d m : ℕ) (n : Name) (x y : Object V T) (p q : Place V O R T)
       → Holds s.live c n.id i → x ≡ slice_index_or s.live i x → d < s.setup.config.clients → d < length s.places
-      → p ≡ slice_index_or s.places d p → p.is_closed ≡ false → m ≡ holds_of x d → length p.gifts < 1024 → m < 4294967295
+      → p ≡ slice_index_or s.places d p → p.is_closed ≡ false → m ≡ holds_of x d → length p.gifts < MOST_GIFTS → m < MOST_HOLDS
       → q ≡ record p { gifts = p.gifts ++ n ∷ [] } → y ≡ with_holds d (m + 1) x
       → IsServed kind s c (Grant n d) (Ok Granted) (record s { places = slice_set s.places d q; live = slice_set s.live i y })
   grant-core kind s c i d m n x y p q h here client place stands is_open holds few less gave more =
@@ -121,7 +122,7 @@ module _ {V O R T : Type 0} where
       (kind : Kind V O R T) {v s : State V O R T} → v ≡ s → {live : List (Object V T)} → live ≡ v.live
       → (c i d m : ℕ) (n : Name) (x y : Object V T) (p q : Place V O R T)
       → Holds live c n.id i → x ≡ slice_index_or v.live i x → d < v.setup.config.clients → d < length v.places
-      → p ≡ slice_index_or v.places d p → p.is_closed ≡ false → m ≡ holds_of x d → length p.gifts < 1024 → m < 4294967295
+      → p ≡ slice_index_or v.places d p → p.is_closed ≡ false → m ≡ holds_of x d → length p.gifts < MOST_GIFTS → m < MOST_HOLDS
       → q ≡ record p { gifts = p.gifts ++ n ∷ [] } → y ≡ with_holds d (m + 1) x
       → IsServed kind s c (Grant n d) (Ok Granted) (record v { places = slice_set v.places d q; live = slice_set v.live i y })
   grant-row kind {v} {s} e same c i d m n x y p q h here client place stands is_open holds few less gave more =

@@ -17,7 +17,7 @@ use Rattle.tm_reference.specs.declared.resumed.Resumed.TheVariants.{Asked, Ended
 use Rattle.tm_reference.specs.declared.resumed.Advance.{Advance}
 use Rattle.tm_reference.specs.declared.resumed.Advance.TheVariants.{Asks, Ends}
 use Rattle.tm_reference.specs.Live.{Rises, StandsAt}
-use Rattle.tm_reference.specs.Plain.{IsKept}
+use Rattle.tm_reference.specs.Kept.{IsKept}
 use Rattle.tm_reference.specs.Resumed.{Shows, Tells, advanced, told, IsAdvanced, IsTold, IsResumed}
 use Rattle.tm_reference.proofs.Keeping.{ArePlaced, kept_set, kept_filter, kept_place}
 use Rattle.tm_reference.proofs.RowsServe.{some_and}

@@ -1,6 +1,6 @@
 pub mod Parts
 pub mod Live
-pub mod Plain
+pub mod Kept
 pub mod Served
 pub mod Resumed
 pub mod Leaves

@@ -1,4 +1,4 @@
--- What the parts of a plain trustee show.
+-- What the parts of a reference trustee show.
 use Rattle.tm_model.specs.State.{Awaits, Start, AskOf}
 use Rattle.tm_reference.specs.declared.work.Awaited.{Awaited}
 use Rattle.tm_reference.specs.declared.work.Awaited.TheVariants.{Begin, Told}

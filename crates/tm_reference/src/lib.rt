@@ -8,7 +8,7 @@ mod live;
 mod object;
 mod opening;
 mod place;
-mod plain;
+mod reference_trustee;
 mod refused;
 mod resumed;
 mod resuming;
@@ -17,7 +17,7 @@ mod sending;
 mod work;
 
 pub use place::Leaving;
-pub use plain::Plain;
+pub use reference_trustee::ReferenceTrustee;
 pub use refused::{NotResumed, NotSent, NotServed};
 pub use resumed::Resumed;
 

@@ -3,11 +3,11 @@ ghost use Rattle.std.specs.Prelude.{◌≡◌, map};
 ghost use Rattle.tm_model.specs.State.{kept, with_holds};
 ghost use Rattle.tm_reference.specs.Live.{AreRising, IsPosition, IsHeldPosition};
 
-use crate::object::PlainObject;
+use crate::object::ReferenceObject;
 use tm_seq::Entrusted;
 
 /// Where the object of an id stands, if it is live.
-pub(crate) fn position<S: Entrusted>(live: &[PlainObject<S>], id: u64) -> Option<usize>
+pub(crate) fn position<S: Entrusted>(live: &[ReferenceObject<S>], id: u64) -> Option<usize>
     requires { AreRising live.now }
     ensures { IsPosition live.now id result }
 {
@@ -20,7 +20,11 @@ pub(crate) fn position<S: Entrusted>(live: &[PlainObject<S>], id: u64) -> Option
 }
 
 /// Where the object of an id stands, if a place holds it.
-pub(crate) fn held_at<S: Entrusted>(live: &[PlainObject<S>], place: u32, id: u64) -> Option<usize>
+pub(crate) fn held_at<S: Entrusted>(
+    live: &[ReferenceObject<S>],
+    place: u32,
+    id: u64,
+) -> Option<usize>
     requires { AreRising live.now }
     ensures { IsHeldPosition live.now place id result }
 {
@@ -38,14 +42,14 @@ pub(crate) fn held_at<S: Entrusted>(live: &[PlainObject<S>], place: u32, id: u64
 }
 
 /// Drops the objects whose total is 0.
-pub(crate) fn keep<S: Entrusted>(live: &mut Vec<PlainObject<S>>)
+pub(crate) fn keep<S: Entrusted>(live: &mut Vec<ReferenceObject<S>>)
     ensures { live.new.items ≡ kept live.old.items }
 {
     live.retain(|object| !object.is_gone());
 }
 
 /// Takes all holds of a place away.
-pub(crate) fn drop_holds<S: Entrusted>(live: &mut [PlainObject<S>], place: u32)
+pub(crate) fn drop_holds<S: Entrusted>(live: &mut [ReferenceObject<S>], place: u32)
     ensures { live.new ≡ map (with_holds place 0) live.old }
 {
     for object in live.iter_mut() {

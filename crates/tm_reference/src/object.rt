@@ -6,20 +6,20 @@ ghost use Rattle.tm_reference.specs.Live.{with_work};
 ghost use Rattle.tm_reference.specs.Resumed.{IsFirst, IsAdvanced};
 
 use crate::resumed::Advance;
-use crate::work::{Awaited, PlainWork};
+use crate::work::{Awaited, ReferenceWork};
 use std::marker::Model;
 use tm_seq::{Entrusted, Event, Next};
 
 /// A live object: its id, its value, the holds of each place, and its unfinished launches in order.
 #[derive(Drop)]
-pub(crate) struct PlainObject<S: Entrusted> {
+pub(crate) struct ReferenceObject<S: Entrusted> {
     pub(crate) id: u64,
     pub(crate) value: S,
     pub(crate) holds: Vec<u32>,
-    pub(crate) works: Vec<PlainWork<S>>,
+    pub(crate) works: Vec<ReferenceWork<S>>,
 }
 
-impl<S: Entrusted> Model for PlainObject<S> {
+impl<S: Entrusted> Model for ReferenceObject<S> {
     ghost use Rattle.tm_model.specs.State.{Object};
 
     ghost Value = { Object S S.Task };
@@ -27,7 +27,7 @@ impl<S: Entrusted> Model for PlainObject<S> {
     ghost view = { λ o. record { id = o.id; value = o.value; holds = o.holds.items; works = o.works.items } };
 }
 
-impl<S: Entrusted> PlainObject<S> {
+impl<S: Entrusted> ReferenceObject<S> {
     /// The holds of a place.
     pub(crate) fn holds_of(&self, place: u32) -> u32
         ensures { result ≡ holds_of self.now place }
@@ -72,7 +72,7 @@ impl<S: Entrusted> PlainObject<S> {
         ensures err { OnErr result (self.new ≡ self.old) }
         ensures back { IfErr result (λ t. t ≡ task) }
     {
-        match self.works.push(PlainWork::new(place, ticket, task)) {
+        match self.works.push(ReferenceWork::new(place, ticket, task)) {
             Ok(()) => Ok(()),
             Err(back) => Err(back.value.task),
         }
@@ -105,7 +105,7 @@ impl<S: Entrusted> PlainObject<S> {
                 task,
             } => {
                 let awaited = Awaited::Told { trustee, index };
-                let work = PlainWork {
+                let work = ReferenceWork {
                     place,
                     ticket,
                     task,

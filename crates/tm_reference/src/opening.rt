@@ -6,28 +6,28 @@ ghost use Rattle.tm_model.specs.State.{no_place};
 ghost use Rattle.tm_model.specs.Opening.{is_named, ids_at, opened, placed_on, opening_of};
 ghost use Rattle.tm_reference.specs.Opens.{all_above};
 
-use crate::object::PlainObject;
-use crate::place::PlainPlace;
-use crate::plain::{IdsAbove, Plain};
+use crate::object::ReferenceObject;
+use crate::place::ReferencePlace;
+use crate::reference_trustee::{IdsAbove, ReferenceTrustee};
 use std::alloc::{AllocError, Global};
 use tm_batch::{Config, First};
 use tm_seq::Entrusted;
 
-impl<S: Entrusted> Plain<S> {
+impl<S: Entrusted> ReferenceTrustee<S> {
     /// The trustee of a number, with the objects of the build that are placed on it.
     pub fn open(
         alloc: Global,
         config: Config,
         number: u32,
         first: Vec<First<S>>,
-    ) -> Result<Plain<S>, AllocError>
-        ensures { IfOk result (λ plain. plain ≡ opening_of number config first.items) }
+    ) -> Result<ReferenceTrustee<S>, AllocError>
+        ensures { IfOk result (λ trustee. trustee ≡ opening_of number config first.items) }
     {
         let count = u64::from(config.clients) + u64::from(number);
         let places = no_places(alloc, count)?;
         let above = ids_above(alloc, config, number, first.as_slice())?;
         let live = open_objects(alloc, number, count, first)?;
-        Ok(Plain {
+        Ok(ReferenceTrustee {
             config,
             number,
             above,
@@ -40,12 +40,12 @@ impl<S: Entrusted> Plain<S> {
 }
 
 // Places that nothing came to.
-fn no_places<S: Entrusted>(alloc: Global, count: u64) -> Result<Vec<PlainPlace<S>>, AllocError>
+fn no_places<S: Entrusted>(alloc: Global, count: u64) -> Result<Vec<ReferencePlace<S>>, AllocError>
     ensures { IfOk result (λ places. places.items ≡ replicate count no_place) }
 {
     let mut places = Vec::new(alloc);
     for _ in 0..count {
-        places.push(PlainPlace::new(alloc))?;
+        places.push(ReferencePlace::new(alloc))?;
     }
     Ok(places)
 }
@@ -134,7 +134,7 @@ fn open_objects<S: Entrusted>(
     number: u32,
     count: u64,
     first: Vec<First<S>>,
-) -> Result<Vec<PlainObject<S>>, AllocError>
+) -> Result<Vec<ReferenceObject<S>>, AllocError>
     ensures { IfOk result (λ live. live.items ≡ opened count 1 (placed_on number first.items)) }
 {
     let mut live = Vec::new(alloc);
@@ -154,7 +154,7 @@ fn open_object<S: Entrusted>(
     id: u64,
     count: u64,
     first: First<S>,
-) -> Result<PlainObject<S>, AllocError>
+) -> Result<ReferenceObject<S>, AllocError>
     ensures { IfOk result (λ o. o ≡ record { id = id; value = first.value; holds = map (λ c. cond (is_named c first) 1 0) (range_with_len 0 count); works = [] }) }
 {
     let mut holds = Vec::new(alloc);
@@ -162,7 +162,7 @@ fn open_object<S: Entrusted>(
         let hold = hold_of(names(first.holders.places(), place));
         holds.push(hold)?;
     }
-    Ok(PlainObject {
+    Ok(ReferenceObject {
         id,
         value: first.value,
         holds,

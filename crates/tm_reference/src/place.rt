@@ -1,26 +1,27 @@
 //! A place of the table.
 ghost use Rattle.std.specs.Prelude.{◌≡◌, ◌≢◌, [], ◌∷◌, ◌++◌, true, OnOk, OnErr, IfOk, IfErr, ◌≤◌, ◌<◌, take, drop, vec_capacity};
+ghost use Rattle.tm_batch.specs.declared.limits.TheConstants.{MOST_ROOM, MOST_COMPLETIONS};
 ghost use Rattle.tm_model.specs.State.{no_place};
 ghost use Rattle.tm_reference.specs.Resumed.{IsTold};
 
-use crate::object::PlainObject;
+use crate::object::ReferenceObject;
 use crate::resumed::{Advance, Resumed};
 use std::alloc::{AllocError, Global};
 use std::marker::Model;
-use tm_batch::{Completion, Name};
+use tm_batch::{Completion, MOST_COMPLETIONS, Name};
 use tm_seq::{Entrusted, Event};
 
 /// What a place has: how many of its requests were run, whether it is closed, and the gifts and
 /// completions that wait for it.
 #[derive(Drop)]
-pub(crate) struct PlainPlace<S: Entrusted> {
+pub(crate) struct ReferencePlace<S: Entrusted> {
     pub(crate) served: u64,
     pub(crate) is_closed: bool,
     pub(crate) gifts: Vec<Name>,
     pub(crate) ready: Vec<Completion<S>>,
 }
 
-impl<S: Entrusted> Model for PlainPlace<S> {
+impl<S: Entrusted> Model for ReferencePlace<S> {
     ghost use Rattle.tm_model.specs.State.{Place};
 
     ghost Value = { Place S S.Op S.Reply S.Task };
@@ -37,15 +38,12 @@ pub struct Leaving<S: Entrusted> {
     pub completions: Vec<Completion<S>>,
 }
 
-// The most completions that leave with a batch, and the most gifts.
-const MOST_LEAVING: usize = 16;
-
-impl<S: Entrusted> PlainPlace<S> {
+impl<S: Entrusted> ReferencePlace<S> {
     /// A place that nothing came to.
-    pub(crate) fn new(alloc: Global) -> PlainPlace<S>
+    pub(crate) fn new(alloc: Global) -> ReferencePlace<S>
         ensures { result ≡ no_place }
     {
-        PlainPlace {
+        ReferencePlace {
             served: 0,
             is_closed: false,
             gifts: Vec::new(alloc),
@@ -74,7 +72,7 @@ impl<S: Entrusted> PlainPlace<S> {
     /// hands the event back for want of memory.
     pub(crate) fn resume(
         &mut self,
-        object: &mut PlainObject<S>,
+        object: &mut ReferenceObject<S>,
         event: Event<S::Reply>,
     ) -> Result<Resumed<S>, Event<S::Reply>>
         requires { object.old.works ≢ [] }
@@ -107,18 +105,19 @@ impl<S: Entrusted> PlainPlace<S> {
     }
 
     /// Takes out what leaves with a batch: the gifts that waited longest, as many as there is room
-    /// for, and the 16 completions that waited longest. Or nothing changes for want of memory.
+    /// for, and the
+    /// [`MOST_COMPLETIONS`] completions that waited longest. Or nothing changes for want of memory.
     pub(crate) fn send(&mut self, alloc: Global, room: usize) -> Result<Leaving<S>, AllocError>
-        requires { room ≤ 16 }
+        requires { room ≤ MOST_ROOM }
         ensures gifts { IfOk result (λ l. l.gifts.items ≡ take room self.old.gifts) }
-        ensures completions { IfOk result (λ l. l.completions.items ≡ take 16 self.old.ready) }
-        ensures left { OnOk result (self.new ≡ record self.old { gifts = drop room self.old.gifts; ready = drop 16 self.old.ready }) }
+        ensures completions { IfOk result (λ l. l.completions.items ≡ take MOST_COMPLETIONS self.old.ready) }
+        ensures left { OnOk result (self.new ≡ record self.old { gifts = drop room self.old.gifts; ready = drop MOST_COMPLETIONS self.old.ready }) }
         ensures err { OnErr result (self.new ≡ self.old) }
     {
-        let mut gifts = Vec::with_capacity(alloc, MOST_LEAVING)?;
-        let mut completions = Vec::with_capacity(alloc, MOST_LEAVING)?;
+        let mut gifts = Vec::with_capacity(alloc, room)?;
+        let mut completions = Vec::with_capacity(alloc, MOST_COMPLETIONS)?;
         move_front(&mut self.gifts, &mut gifts, room);
-        move_front(&mut self.ready, &mut completions, MOST_LEAVING);
+        move_front(&mut self.ready, &mut completions, MOST_COMPLETIONS);
         Ok(Leaving { gifts, completions })
     }
 }

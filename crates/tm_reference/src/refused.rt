@@ -26,7 +26,7 @@ pub enum NotResumed<S: Entrusted> {
 /// Why no answers left.
 #[derive(Debug, Clone, Copy, PartialEq, Eq)]
 pub enum NotSent {
-    /// The place is none of the table's, or the room is above 16.
+    /// The place is none of the table's, or the room is above [`MOST_ROOM`](tm_batch::MOST_ROOM).
     NotLegal,
     /// There was no memory.
     NoMemory,

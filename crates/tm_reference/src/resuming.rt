@@ -6,13 +6,13 @@ ghost use Rattle.tm_reference.specs.Parts.{awaits_of};
 ghost use Rattle.tm_reference.specs.Resumed.{IsResumed, IsNotResumed};
 
 use crate::live::{keep, position};
-use crate::plain::{IdsAbove, Plain};
+use crate::reference_trustee::{IdsAbove, ReferenceTrustee};
 use crate::refused::NotResumed;
 use crate::resumed::Resumed;
 use crate::work::Awaited;
 use tm_seq::{Entrusted, Event};
 
-impl<S: Entrusted> Plain<S> {
+impl<S: Entrusted> ReferenceTrustee<S> {
     /// Resumes the first launch of an object with an event, or hands the event back. It costs a look
     /// at each object.
     pub fn resume(&mut self, id: u64, event: Event<S::Reply>) -> Result<Resumed<S>, NotResumed<S>>

@@ -7,18 +7,15 @@ ghost use Rattle.tm_reference.specs.Served.{IsServed};
 ghost use Rattle.tm_batch.specs.declared.message.Answer.TheVariants.{ByeDone};
 
 use crate::live::{drop_holds, held_at, keep};
-use crate::object::PlainObject;
-use crate::plain::Plain;
+use crate::object::ReferenceObject;
+use crate::reference_trustee::ReferenceTrustee;
 use crate::refused::NotServed;
-use crate::work::PlainWork;
+use crate::work::ReferenceWork;
 use std::alloc::{AllocError, Global};
-use tm_batch::{Answer, Name, Refusal, Request};
+use tm_batch::{Answer, MOST_GIFTS, MOST_HOLDS, Name, Refusal, Request};
 use tm_seq::Entrusted;
 
-// The most gifts that wait for one place.
-const MOST_GIFTS: usize = 1024;
-
-impl<S: Entrusted> Plain<S> {
+impl<S: Entrusted> ReferenceTrustee<S> {
     pub(crate) fn entrust(
         &mut self,
         alloc: Global,
@@ -38,7 +35,7 @@ impl<S: Entrusted> Plain<S> {
             return Err(NotServed::NoMemory(Request::Entrust(value)));
         };
         let id = self.ids + 1;
-        let object = PlainObject {
+        let object = ReferenceObject {
             id,
             value,
             holds,
@@ -110,7 +107,7 @@ impl<S: Entrusted> Plain<S> {
         }
         let object = &mut self.live[at];
         let holds = object.holds_of(to);
-        if other.gifts.len() >= MOST_GIFTS || holds == u32::MAX {
+        if other.gifts.len() >= MOST_GIFTS || holds == MOST_HOLDS {
             return Ok(Answer::GiftsFull);
         }
         let Ok(()) = other.give(name) else {

@@ -6,17 +6,15 @@ ghost use Rattle.tm_model.specs.Legal.{MayCome};
 ghost use Rattle.tm_reference.specs.Leaves.{AreLeaving, IsNotSent};
 
 use crate::place::Leaving;
-use crate::plain::Plain;
+use crate::reference_trustee::ReferenceTrustee;
 use crate::refused::NotSent;
 use std::alloc::Global;
+use tm_batch::MOST_ROOM;
 use tm_seq::Entrusted;
 
-// The greatest room of a batch.
-const MOST_ROOM: u32 = 16;
-
-impl<S: Entrusted> Plain<S> {
+impl<S: Entrusted> ReferenceTrustee<S> {
     /// Lets the answers to a batch of a place leave, with what waits for it: at most `room` gifts, and
-    /// at most 16 completions.
+    /// at most [`MOST_COMPLETIONS`](tm_batch::MOST_COMPLETIONS) completions.
     pub fn send(&mut self, alloc: Global, place: u32, room: u32) -> Result<Leaving<S>, NotSent>
         ensures may { OnOk result (MayCome S.kind self.old (Sent place room)) }
         ensures leaves { IfOk result (AreLeaving self.old place room) }

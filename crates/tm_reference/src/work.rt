@@ -22,14 +22,14 @@ pub(crate) enum Awaited {
 /// An unfinished launch: who launched it, under which ticket, the task that goes on, and what it
 /// awaits.
 #[derive(Drop)]
-pub(crate) struct PlainWork<S: Entrusted> {
+pub(crate) struct ReferenceWork<S: Entrusted> {
     pub(crate) place: u32,
     pub(crate) ticket: u64,
     pub(crate) task: S::Task,
     pub(crate) awaited: Awaited,
 }
 
-impl<S: Entrusted> Model for PlainWork<S> {
+impl<S: Entrusted> Model for ReferenceWork<S> {
     ghost use Rattle.tm_model.specs.State.{Work};
     ghost use Rattle.tm_reference.specs.Parts.{awaits_of};
 
@@ -38,12 +38,12 @@ impl<S: Entrusted> Model for PlainWork<S> {
     ghost view = { λ w. record { place = w.place; ticket = w.ticket; task = w.task; awaits = awaits_of w.awaited } };
 }
 
-impl<S: Entrusted> PlainWork<S> {
+impl<S: Entrusted> ReferenceWork<S> {
     /// Work that has not begun.
-    pub(crate) fn new(place: u32, ticket: u64, task: S::Task) -> PlainWork<S>
+    pub(crate) fn new(place: u32, ticket: u64, task: S::Task) -> ReferenceWork<S>
         ensures { result ≡ record { place = place; ticket = ticket; task = task; awaits = Start } }
     {
-        PlainWork {
+        ReferenceWork {
             place,
             ticket,
             task,

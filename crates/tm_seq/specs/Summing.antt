@@ -23,6 +23,13 @@ abbrev pub sum_left : {T U : Type 0} → (T → ℕ) → (U → ℕ) → Sum T U
 sum_left f g (First task) = f task
 sum_left f g (Second task) = g task
 
+-- a task is of another side than the value
+abbrev pub IsOfOtherSide : {A B T U : Type 0} → Sum A B → Sum T U → Type 0
+IsOfOtherSide (First v) (First task) = ⊥
+IsOfOtherSide (First v) (Second task) = Unit {0}
+IsOfOtherSide (Second v) (First task) = Unit {0}
+IsOfOtherSide (Second v) (Second task) = ⊥
+
 module _ {A B O R T U : Type 0} where
   -- a task of the value's side is told the event there; a task of the other side ends with `other`, and leaves the value
   abbrev pub sum_advance :

@@ -2,7 +2,8 @@
 //!
 //! A kind is a sequential object: its operations run one after another, and launched work goes on
 //! event by event. Contracts know a kind by two total functions, `step` for an operation and
-//! `advance` for a resume, and by the values of `left` and `no_memory`.
+//! `advance` for a resume, and by the values of `left` and `no_memory`. Two kinds with the same
+//! operations and replies make one, their [`Sum`].
 #![tactic(auto)]
 
 mod counter;

@@ -1,7 +1,8 @@
 //! Two kinds as one.
 ghost use Rattle.std.specs.Prelude.{◌≡◌};
 ghost use Rattle.tm_seq.specs.Kind.{IsResume};
-ghost use Rattle.tm_seq.specs.Summing.{sum_kind};
+ghost use Rattle.tm_seq.specs.Summing.{sum_kind, IsOfOtherSide};
+ghost use Rattle.tm_seq.specs.declared.kind.Next.TheVariants.{Done};
 ghost use Rattle.tm_seq.specs.SummingLaws.{sum_laws};
 
 use crate::kind::{Entrusted, Event, Next};
@@ -57,7 +58,9 @@ impl<A: Entrusted, B: Beside<A>> Entrusted for Sum<A, B> {
         task: Sum<A::Task, B::Task>,
         event: Event<A::Reply>,
     ) -> Next<A::Op, Sum<A::Task, B::Task>, A::Reply>
-        ensures { IsResume (sum_kind A.kind B.kind B.other_side) self.old task event self.new result }
+        ensures lawful { IsResume (sum_kind A.kind B.kind B.other_side) self.old task event self.new result }
+        ensures other { IsOfOtherSide self.old task → result ≡ Done B.other_side }
+        ensures stays { IsOfOtherSide self.old task → self.new ≡ self.old }
     {
         match (self, task) {
             (Sum::First(value), Sum::First(task)) => match value.resume(task, event) {

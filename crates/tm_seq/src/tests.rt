@@ -1,7 +1,8 @@
-//! A counter, reached through its bound and by itself.
+//! A counter and a sum of two, reached through their bound and by themselves.
 
 use crate::counter::{Counter, CounterOp, CounterReply, CounterTask};
 use crate::kind::{Entrusted, Event, Next};
+use crate::sum::Sum;
 
 /// Runs two operations on a value of any kind, and begins a task on it.
 fn in_turn<S: Entrusted>(
@@ -29,19 +30,56 @@ fn counts_and_wraps(rt: HostRuntime) {
     assert!(rt; matches!(first, CounterReply::Is(4)));
     assert!(rt; matches!(second, CounterReply::Is(4)));
     assert!(rt; left == 1);
-    match next {
-        Next::Ask {
-            trustee,
-            index,
-            op,
-            task,
-        } => {
-            assert!(rt; trustee == 2 && index == 7);
-            assert!(rt; matches!(op, CounterOp::Read));
-            assert!(rt; matches!(task, CounterTask::Wait));
-        }
-        Next::Done { .. } => assert!(rt; false, "the task asks"),
-    }
+    assert!(rt;
+        matches!(
+            next,
+            Next::Ask {
+                trustee: 2,
+                index: 7,
+                op: CounterOp::Read,
+                task: CounterTask::Wait,
+            }
+        )
+    );
+}
+
+#[test]
+fn a_sum_runs_the_side_of_its_value(rt: HostRuntime) {
+    let mut value: Sum<Counter, Counter> = Sum::Second(Counter { value: 5 });
+    let (first, second, left, next) = in_turn(
+        &mut value,
+        (CounterOp::Add(2), CounterOp::Read),
+        Sum::Second(CounterTask::AskAt {
+            trustee: 2,
+            index: 7,
+        }),
+    );
+    assert!(rt; matches!(first, CounterReply::Is(7)));
+    assert!(rt; matches!(second, CounterReply::Is(7)));
+    assert!(rt; left == 1);
+    assert!(rt;
+        matches!(
+            next,
+            Next::Ask {
+                trustee: 2,
+                index: 7,
+                op: CounterOp::Read,
+                task: Sum::Second(CounterTask::Wait),
+            }
+        )
+    );
+    let other = value.resume(Sum::First(CounterTask::End), Event::Begin);
+    assert!(rt;
+        matches!(
+            other,
+            Next::Done {
+                reply: CounterReply::Refused
+            }
+        )
+    );
+    assert!(rt; matches!(value, Sum::Second(Counter { value: 7 })));
+    value = Sum::First(Counter { value: 1 });
+    assert!(rt; matches!(value.run(CounterOp::Add(2)), CounterReply::Is(3)));
 }
 
 #[test]

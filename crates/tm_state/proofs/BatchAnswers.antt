@@ -15,7 +15,7 @@ use Rattle.tm_model.specs.Ran.{ran, waiting_after}
 use Rattle.tm_model.specs.Batches.{leaving, batches_from, batches}
 use Rattle.tm_model.specs.Entries.{entries_by, added}
 use Rattle.tm_core.proofs.AllAnswers.{batches_have_all_answers}
-use Rattle.tm_core.proofs.Every.{all_at}
+use Rattle.tm_core.proofs.CallerLemmas.{all_at}
 use Rattle.tm_core.proofs.Joins.{batches_join, own_batch, state-append}
 use Rattle.tm_state.specs.Holding.{Holding}
 use Rattle.tm_state.specs.Standing.{Stands}

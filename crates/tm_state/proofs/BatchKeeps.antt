@@ -7,7 +7,7 @@ use Rattle.tm_model.specs.State.{Place, State, no_place, place_of}
 use Rattle.tm_model.specs.Serve.{counted, sent_off}
 use Rattle.tm_objects.specs.Standing.{stock_of}
 use Rattle.tm_objects.specs.Stock.{Stock}
-use Rattle.tm_core.proofs.Every.{all_at}
+use Rattle.tm_core.proofs.CallerLemmas.{all_at}
 use Rattle.tm_state.specs.Holding.{Holding}
 use Rattle.tm_state.specs.Standing.{Keeps}
 use Rattle.tm_state.proofs.RowsKeep.{keeps_place}

@@ -11,7 +11,7 @@ use Rattle.std.proofs.lemmas.Grind.{get_or_after_one}
 use Rattle.std.proofs.lemmas.List.FromFn.{length-map-range_with_len, get_or-map-range_with_len, fill_by_all}
 use Rattle.tm_batch.specs.declared.message.Name.{Name}
 use Rattle.tm_batch.specs.declared.config.First.{First}
-use Rattle.tm_core.proofs.Every.{all_map, all_each}
+use Rattle.tm_core.proofs.CallerLemmas.{all_map, all_each}
 use Rattle.tm_objects.specs.Live.{Live, HasLive, holds_of, total, with_holds, change, object_of, count_in}
 use Rattle.tm_objects.specs.Rising.{IsStock}
 use Rattle.tm_objects.specs.Stock.{Stock, entrusted, granted, gift_taken, gifts_of}

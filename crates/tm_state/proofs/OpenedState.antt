@@ -11,7 +11,7 @@ use Rattle.tm_model.specs.State.{Place, State, no_place}
 use Rattle.tm_model.specs.Opening.{placed_on, opened, opening_of}
 use Rattle.tm_model.specs.Laws.{IsOpening}
 use Rattle.tm_core.proofs.Bounds.{opened_long}
-use Rattle.tm_core.proofs.Every.{is_same, all_both, all_filter, all_replicate}
+use Rattle.tm_core.proofs.CallerLemmas.{is_same, all_both, all_filter, all_replicate}
 use Rattle.tm_core.proofs.First.{opening_unfinished}
 use Rattle.tm_objects.specs.Live.{Live}
 use Rattle.tm_objects.specs.Standing.{live_of, stock_of}

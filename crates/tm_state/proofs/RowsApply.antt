@@ -11,7 +11,7 @@ use Rattle.tm_objects.specs.Live.{HasLive}
 use Rattle.tm_objects.specs.Stock.{Stock, changed}
 use Rattle.tm_objects.specs.Standing.{stock_of}
 use Rattle.tm_objects.proofs.Alike.{changes_alike}
-use Rattle.tm_core.proofs.Every.{all_weaker}
+use Rattle.tm_core.proofs.CallerLemmas.{all_weaker}
 use Rattle.tm_core.proofs.Unfinished.{unfinished_change}
 use Rattle.tm_state.specs.Holding.{Holding}
 use Rattle.tm_state.specs.Asking.{IsAsked}

@@ -17,7 +17,7 @@ use Rattle.tm_objects.specs.Live as live
 use Rattle.tm_objects.specs.Live.{HasLive}
 use Rattle.tm_objects.specs.Stock.{Stock, released, reclaimed, closed}
 use Rattle.tm_objects.proofs.Alike.{releases_alike, reclaims_alike, closes_alike}
-use Rattle.tm_core.proofs.Every.{item_within, all_weaker}
+use Rattle.tm_core.proofs.CallerLemmas.{item_within, all_weaker}
 use Rattle.tm_core.proofs.Unfinished.{no_works, unfinished_change, unfinished_map, unfinished_kept, unfinished_without}
 use Rattle.tm_state.specs.Holding.{Holding}
 use Rattle.tm_state.specs.Standing.{Keeps}

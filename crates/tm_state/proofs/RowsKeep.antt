@@ -10,7 +10,7 @@ use Rattle.tm_model.specs.State.{Object, Place, State, no_place, place_of, with_
 use Rattle.tm_model.specs.Holds.{unfinished}
 use Rattle.tm_objects.specs.Stock.{Stock}
 use Rattle.tm_objects.specs.Standing.{stock_of}
-use Rattle.tm_core.proofs.Every.{all_set, all_at, all_weaker}
+use Rattle.tm_core.proofs.CallerLemmas.{all_set, all_at, all_weaker}
 use Rattle.tm_state.specs.Holding.{Holding}
 use Rattle.tm_state.specs.Standing.{Keeps}
 use Rattle.tm_state.specs.Asking.{IsAsked, HasServed}

@@ -13,7 +13,7 @@ use Rattle.tm_model.specs.Serve as serve
 use Rattle.tm_model.specs.Holds.{unfinished}
 use Rattle.tm_objects.specs.Stock.{Stock, begun}
 use Rattle.tm_objects.proofs.Alike.{launches_alike}
-use Rattle.tm_core.proofs.Every.{all_weaker, all-append}
+use Rattle.tm_core.proofs.CallerLemmas.{all_weaker, all-append}
 use Rattle.tm_core.proofs.Unfinished.{works_of-append, unfinished_changed}
 use Rattle.tm_state.specs.Holding.{Holding}
 use Rattle.tm_state.specs.Standing.{IsWorkOf, TicketsRise}

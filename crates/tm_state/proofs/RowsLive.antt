@@ -11,7 +11,7 @@ use Rattle.tm_objects.specs.Live.{Live, HasLive}
 use Rattle.tm_objects.specs.Live as live
 use Rattle.tm_objects.specs.Stock.{Stock}
 use Rattle.tm_objects.specs.Standing.{live_of}
-use Rattle.tm_core.proofs.Every.{found}
+use Rattle.tm_core.proofs.CallerLemmas.{found}
 use Rattle.tm_state.specs.Holding.{Holding}
 use Rattle.tm_state.specs.Standing.{Keeps}
 use Rattle.tm_state.specs.Asking.{IsAsked}

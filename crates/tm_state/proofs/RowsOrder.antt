@@ -10,7 +10,7 @@ use Rattle.std.proofs.lemmas.Bool.{cases_eq}
 use Rattle.std.proofs.lemmas.Map.Keys.{sorted_from_strictly_increasing}
 use Rattle.tm_model.specs.State.{Object, State, place_count, change, object_of}
 use Rattle.tm_model.specs.Laws.{IsSound, IsSoundObject}
-use Rattle.tm_core.proofs.Every.{all_weaker, all_both}
+use Rattle.tm_core.proofs.CallerLemmas.{all_weaker, all_both}
 use Rattle.tm_core.proofs.Rising.{RisesTo}
 use Rattle.tm_core.proofs.Bounds.{rises_all}
 use Rattle.tm_core.proofs.Ordered.{IsOrdered}

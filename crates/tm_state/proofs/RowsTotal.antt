@@ -9,7 +9,7 @@ use Rattle.tm_model.specs.Holds.{works_of}
 use Rattle.tm_model.specs.Laws.{IsOpening, IsSoundObject}
 use Rattle.tm_objects.specs.Live.{total}
 use Rattle.tm_objects.specs.Standing.{live_of}
-use Rattle.tm_core.proofs.Every.{all_weaker}
+use Rattle.tm_core.proofs.CallerLemmas.{all_weaker}
 use Rattle.tm_core.proofs.Finding.{all_found}
 use Rattle.tm_core.proofs.Unfinished.{unfinished_without}
 use Rattle.tm_state.specs.Holding.{Holding}

@@ -1,6 +1,6 @@
 //! What a row does, and what comes of it.
 
-use crate::{NotResumed, NotSent, NotServed, Plain, Resumed};
+use crate::{NotResumed, NotSent, NotServed, ReferenceTrustee, Resumed};
 use std::alloc::{AllocError, Global};
 use std::process::Abort;
 use tm_batch::{Answer, Config, First, Holders, Name, Refusal, Request};
@@ -106,8 +106,8 @@ fn answered(answer: Answer<Counter>) -> Seen {
     }
 }
 
-fn sent(plain: &mut Plain<Counter>, alloc: Global, place: u32, room: u32) -> Seen {
-    match plain.send(alloc, place, room) {
+fn sent(trustee: &mut ReferenceTrustee<Counter>, alloc: Global, place: u32, room: u32) -> Seen {
+    match trustee.send(alloc, place, room) {
         Ok(left) => {
             let gift = match left.gifts.as_slice().last() {
                 Some(gift) => *gift,
@@ -124,16 +124,21 @@ fn sent(plain: &mut Plain<Counter>, alloc: Global, place: u32, room: u32) -> See
     }
 }
 
-pub(super) fn outcome(plain: &mut Plain<Counter>, alloc: Global, place: u32, does: Does) -> Seen {
+pub(super) fn outcome(
+    trustee: &mut ReferenceTrustee<Counter>,
+    alloc: Global,
+    place: u32,
+    does: Does,
+) -> Seen {
     if let Some(request) = request(does) {
-        return match plain.serve(alloc, place, request) {
+        return match trustee.serve(alloc, place, request) {
             Ok(answer) => answered(answer),
             Err(NotServed::NotLegal(_)) => Seen::NotLegal,
             Err(NotServed::NoMemory(_)) => Seen::NoMemory,
         };
     }
     if let Some((id, event)) = event(does) {
-        return match plain.resume(id, event) {
+        return match trustee.resume(id, event) {
             Ok(
                 Resumed::Asked {
                     ticket,
@@ -148,14 +153,19 @@ pub(super) fn outcome(plain: &mut Plain<Counter>, alloc: Global, place: u32, doe
         };
     }
     match does {
-        Does::Send(room) => sent(plain, alloc, place, room),
+        Does::Send(room) => sent(trustee, alloc, place, room),
         _ => Seen::Other,
     }
 }
 
-pub(super) fn play(rt: &impl Abort, alloc: Global, plain: &mut Plain<Counter>, rows: &[Row]) {
+pub(super) fn play(
+    rt: &impl Abort,
+    alloc: Global,
+    trustee: &mut ReferenceTrustee<Counter>,
+    rows: &[Row],
+) {
     for row in rows {
-        assert_eq!(rt; outcome(plain, alloc, row.0, row.1), row.2);
+        assert_eq!(rt; outcome(trustee, alloc, row.0, row.1), row.2);
     }
 }
 
@@ -164,7 +174,17 @@ pub(super) fn opened(
     alloc: Global,
     config: Config,
     objects: &[(u32, u64, &[u32])],
-) -> Result<Plain<Counter>, AllocError> {
+) -> Result<ReferenceTrustee<Counter>, AllocError> {
+    opened_as(alloc, config, 0, objects)
+}
+
+// The trustee of a number.
+pub(super) fn opened_as(
+    alloc: Global,
+    config: Config,
+    number: u32,
+    objects: &[(u32, u64, &[u32])],
+) -> Result<ReferenceTrustee<Counter>, AllocError> {
     let mut first = Vec::new(alloc);
     for (trustee, value, holders) in objects {
         first.push(First {
@@ -173,5 +193,5 @@ pub(super) fn opened(
             holders: Holders::new(Vec::from_slice(alloc, holders)?),
         })?;
     }
-    Plain::open(alloc, config, 0, first)
+    ReferenceTrustee::open(alloc, config, number, first)
 }

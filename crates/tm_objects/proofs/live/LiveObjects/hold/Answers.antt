@@ -1,4 +1,5 @@
 use Rattle.std.proofs.Common.{◌+◌, ◌<◌, length, refl, ap, ◌∙◌, arith, length-set, true}
+use Rattle.tm_batch.specs.declared.limits.TheConstants.{MOST_HOLDS}
 use Rattle.tm_objects.specs.Live.{Live, LiveList, holds_of, total, with_holds, change}
 use Rattle.tm_objects.proofs.At.{sum-set, named_at, live_is, slot_has, found_at, sound_write, write_listed}
 use Rattle.tm_objects.proofs.Counted.{counted_hold, holds_yes, key_within, place_within}
@@ -6,7 +7,7 @@ use Rattle.tm_objects.proofs.live.LiveObjects.hold.Goals as goal
 
 pub key_of-key-requires : goal.key_of-key-requires
 key_of-key-requires g c =
-    slot_has c.self.invariant.0 _ _ (λ o. (holds_of o c.args.place < 4294967295) × (total o < 18446744073709551615)) (ap (λ (s : LiveList g.row.V.Denot). s.live) c.self.view_is) c.requires.live
+    slot_has c.self.invariant.0 _ _ (λ o. (holds_of o c.args.place < MOST_HOLDS) × (total o < 18446744073709551615)) (ap (λ (s : LiveList g.row.V.Denot). s.live) c.self.view_is) c.requires.live
 
 pub add_hold-requires-clause-count : goal.add_hold-requires-clause-count
 add_hold-requires-clause-count g c =
