@@ -4,9 +4,12 @@ use Rattle.std.specs.declared.option.Option.TheVariants.{None, Some}
 use Rattle.atomic_table.specs.Table.{Me, Step, rest}
 use Rattle.tm_seq.specs.Kind.{Kind}
 use Rattle.tm_batch.specs.declared.batch.Batch.{Batch}
+use Rattle.tm_batch.specs.declared.message.Request.{Request}
 use Rattle.tm_batch.specs.declared.message.AnswerBatch.{AnswerBatch}
 use Rattle.tm_model.specs.declared.entry.Entry.{Entry}
 use Rattle.tm_model.specs.State.{State}
+use Rattle.tm_model.specs.Lists.{IsPrefix}
+use Rattle.tm_model.specs.Ran.{ran}
 use Rattle.tm_model.specs.Slots.{slot_of}
 use Rattle.tm_pair.specs.Calls.{Publishes, Collects, SeesNothing, Takes, HasAnswered}
 use Rattle.tm_pair.specs.Sides.{IsGoodClient, IsGoodTrustee}
@@ -150,3 +153,43 @@ module _ {V O R T : Type 0} where
     past = listed [];
     noted = listed [];
   }
+
+  -- a note of a log, and a seat's view with a note taken in
+  abbrev pub note_of : View V O R T → List (Entry V O R T) → View V O R T
+  note_of v log = record v { trustee = false; note = true; place = 0; settled = false; up = 0; made = 0; past = listed []; noted = listed log }
+
+  abbrev pub client_note : View V O R T → View V O R T
+  client_note v = note_of v (client_in v.place v.past.items).seen
+
+  abbrev pub trustee_note : View V O R T → View V O R T
+  trustee_note v = note_of v (trustee_in v.past.items).log
+
+  abbrev pub noted : View V O R T → View V O R T → View V O R T
+  noted v w = record v { noted = w.noted }
+
+  -- a note that was taken in
+  abbrev pub spent : View V O R T
+  spent = record {
+    number = 0;
+    config = record { clients = 0; trustees = 0; objects = 0; trusts = 0; last_id = 0 };
+    first = listed [];
+    trustee = false;
+    note = true;
+    place = 0;
+    settled = false;
+    up = 0;
+    made = 0;
+    past = listed [];
+    noted = listed [];
+  }
+
+  -- of a seen log of place c and a noted one, one begins the other, and what the noted one ran for c begins what c sent
+  abbrev pub Compares : ℕ → List (Entry V O R T) → List (Request V O R T) → List (Entry V O R T) → Type 0
+  Compares c seen sent log = (IsPrefix seen log ⊎ IsPrefix log seen) × IsPrefix (ran c log) sent
+
+  abbrev pub compares : PlayOf V O R T
+  compares st m found n =
+      (n ≡ m) × Compares m.0.place (client_in m.0.place m.0.past.items).seen (client_in m.0.place m.0.past.items).sent m.0.noted.items
+
+  abbrev pub follows : PlayOf V O R T
+  follows st m found n = (n ≡ m) × IsPrefix m.0.noted.items (trustee_in m.0.past.items).log

@@ -1,11 +1,11 @@
 //! The rule of the table, and what each step tells.
 ghost use Rattle.tm_toggle.specs.Ruled.{opening_by, Delegates};
-ghost use Rattle.tm_toggle.specs.Plays.{first_view, publishes, collects, sees, lays, lifts, answers, settles, with_client, new_client};
+ghost use Rattle.tm_toggle.specs.Plays.{first_view, publishes, collects, sees, lays, lifts, answers, settles, with_client, new_client, client_note, trustee_note, noted, spent, compares, follows};
 
 use crate::sides::Key;
 use crate::content::Content;
 use crate::view::View;
-use atomic_table::{Play, Split, TableRule};
+use atomic_table::{Join, Play, Split, TableRule};
 use std::marker::PhantomData;
 use tm_pair::{Since, FitsBatches};
 
@@ -85,4 +85,55 @@ impl<S: FitsBatches> Split<View<S>> for Makes {
     ghost left = { with_client };
 
     ghost right = { new_client };
+}
+
+/// A note of what a client has seen.
+pub struct ClientNote<S> {
+    kind: PhantomData<S>,
+}
+
+impl<S: FitsBatches> Split<View<S>> for ClientNote<S> {
+    ghost left = { λ v. v };
+
+    ghost right = { client_note };
+}
+
+/// A note of the trustee's log.
+pub struct TrusteeNote<S> {
+    kind: PhantomData<S>,
+}
+
+impl<S: FitsBatches> Split<View<S>> for TrusteeNote<S> {
+    ghost left = { λ v. v };
+
+    ghost right = { trustee_note };
+}
+
+/// A seat takes a note in.
+pub struct TakesNote<S> {
+    kind: PhantomData<S>,
+}
+
+impl<S: FitsBatches> Join<View<S>> for TakesNote<S> {
+    ghost both = { noted };
+
+    ghost spent = { spent };
+}
+
+/// A client learns what the log that it noted has to do with its own.
+pub struct Compare<S> {
+    kind: PhantomData<S>,
+}
+
+impl<S: FitsBatches> Play<Content<S>, View<S>> for Compare<S> {
+    ghost then = { compares };
+}
+
+/// The trustee learns that the log that it noted begins its own.
+pub struct Follow<S> {
+    kind: PhantomData<S>,
+}
+
+impl<S: FitsBatches> Play<Content<S>, View<S>> for Follow<S> {
+    ghost then = { follows };
 }

@@ -1,0 +1,19 @@
+//! What holds of a table between any two atomic steps.
+ghost use Rattle.atomic_table.specs.Table.{State as TableState};
+ghost use Rattle.tm_toggle.specs.Ruled.{opening_by, Delegates};
+ghost use Rattle.tm_toggle.specs.OneCore.{ShowsOneCore};
+ghost use Rattle.tm_toggle.specs.declared.content.Content.{Content};
+ghost use Rattle.tm_toggle.specs.declared.view.View.{View};
+ghost use Rattle.tm_toggle.specs.declared.sides.Key.{Key};
+
+use crate::fitting::Shareable;
+
+/// **One good core between any two atomic steps.** In each state that the rule [`Order`](crate::Order)
+/// of a table allows, one list of calls tells everything: each call could come where it stands, the
+/// core that they leave is good, the words and the slots at home are those of that core, and each
+/// seat's view is what that core shows to its place, or to the trustee. What a side stands for is
+/// read off its seat's view, and each call of a side adds itself, and nothing else of that side's, to
+/// the list (the clauses `next` of [`SharedTable`](crate::SharedTable)'s calls).
+pub fn one_good_core<S: Shareable>()
+    ensures { (key : Key S S.Op S.Reply S.Task) (s : TableState (Content S S.Op S.Reply S.Task) (View S S.Op S.Reply S.Task)) → Delegates S.kind (opening_by key) s → ShowsOneCore S.kind (opening_by key) s }
+{}
