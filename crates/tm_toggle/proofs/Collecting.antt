@@ -127,20 +127,20 @@ module _ {V O R T : Type 0} (kind : Kind V O R T) (opening : State V O R T) wher
       (λ front. all_more IsByTrustee front k.past move (λ e. e))
       (λ z. apart (z ∙ sym own.number)) (h.seats j u there) in
       delegates kind opening k' core' _ next (moved kind opening s core core' k past' k.up p s.words hs id w h
-          (come_next k.past move (first_core 0) h.calls finds) good (length-set core.slots p slot') else (λ d ne. refl)
-          (λ c l was. let e = else c (λ z. omega arith) in
-          untouched_on core core' k past' k.up c (ap (λ (x : FullSlot V O R T). client_of c x) e) (ap (λ (x : FullSlot V O R T). x.request_word) e)
-          (all_snoc (λ m. IsByClient c m → ⊥) k.past move was.calls (λ z. omega arith)) was)
-          refl deep (λ d ne. (refl, refl)) (
-            h.requests p inside ∙ ap bit (sym words.0) ∙ ap (λ (x : FullSlot V O R T). bit x.request_word) (sym now),
-            h.responses p inside ∙ ap bit (sym words.1) ∙ ap (λ (x : FullSlot V O R T). bit x.response_word) (sym now),
-          )
-          else_home (
-            home.0,
-            home.1,
-            subst (λ (x : FullSlot V O R T). IsHome (k.held p) (k.up == p + 1) home.0 x.box) (sym now) home.2,
-          )
-          here others)
+      (come_next k.past move (first_core 0) h.calls finds) good (length-set core.slots p slot') else (λ d ne. refl)
+      (λ c l was. let e = else c (λ z. omega arith) in
+      untouched_on core core' k past' k.up c (ap (λ (x : FullSlot V O R T). client_of c x) e) (ap (λ (x : FullSlot V O R T). x.request_word) e)
+      (all_snoc (λ m. IsByClient c m → ⊥) k.past move was.calls (λ z. omega arith)) was)
+      refl deep (λ d ne. (refl, refl)) (
+        h.requests p inside ∙ ap bit (sym words.0) ∙ ap (λ (x : FullSlot V O R T). bit x.request_word) (sym now),
+        h.responses p inside ∙ ap bit (sym words.1) ∙ ap (λ (x : FullSlot V O R T). bit x.response_word) (sym now),
+      )
+      else_home (
+        home.0,
+        home.1,
+        subst (λ (x : FullSlot V O R T). IsHome (k.held p) (k.up == p + 1) home.0 x.box) (sym now) home.2,
+      )
+      here others)
 
   -- what stands in the slot of a box whose answers are back
   back_home :

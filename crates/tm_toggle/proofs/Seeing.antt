@@ -154,18 +154,18 @@ module _ {V O R T : Type 0} (kind : Kind V O R T) (opening : State V O R T) wher
       (λ d front. all_more (IsByClient d) front k.past move (λ e. e))
       (λ z. apart (z ∙ sym own.number)) (h.seats j u there) in
       delegates kind opening k' core' _ next (moved kind opening s core core' k past' up' c s.words hs id w h
-          (come_next k.past move (first_core 0) h.calls finds) good (length-set core.slots c slot') (λ d ne. stepping.other_slot core c d slot' ne) ups
-          (λ d l was. untouched_on core core' k past' up' d (same d).0 (same d).1 (all_snoc (λ m. IsByClient d m → ⊥) k.past move was.calls (λ e. e)) was)
-          refl deep (λ d ne. (refl, refl)) (
-            h.requests c inside ∙ ap (λ (x : FullSlot V O R T). bit x.request_word) (sym now),
-            h.responses c inside ∙ ap (λ (x : FullSlot V O R T). bit x.response_word) (sym now),
-          )
-          else_home (
-            home.0,
-            home.1,
-            subst (λ (x : FullSlot V O R T). IsHome (k.held c) (up' == c + 1) home.0 x.box) (sym now) home.2,
-          )
-          here others)
+      (come_next k.past move (first_core 0) h.calls finds) good (length-set core.slots c slot') (λ d ne. stepping.other_slot core c d slot' ne) ups
+      (λ d l was. untouched_on core core' k past' up' d (same d).0 (same d).1 (all_snoc (λ m. IsByClient d m → ⊥) k.past move was.calls (λ e. e)) was)
+      refl deep (λ d ne. (refl, refl)) (
+        h.requests c inside ∙ ap (λ (x : FullSlot V O R T). bit x.request_word) (sym now),
+        h.responses c inside ∙ ap (λ (x : FullSlot V O R T). bit x.response_word) (sym now),
+      )
+      else_home (
+        home.0,
+        home.1,
+        subst (λ (x : FullSlot V O R T). IsHome (k.held c) (up' == c + 1) home.0 x.box) (sym now) home.2,
+      )
+      here others)
 
   sees_at :
       (slots id : ℕ) (v : View V O R T) (i c : ℕ) → v.trustee ≡ true → opening_in v ≡ opening → i ≡ r_of c → c < slots

@@ -277,27 +277,27 @@ module _ {V O R T : Type 0} (kind : Kind V O R T) where
                 log = λ t. absurd (off (sym t ∙ mine));
                 own = λ _ _. record { number = own.number; inside = own.inside; view = own.view; word = own.word; settled = here; calls = own.calls };
               }))
-              (λ (t : (j ≢ id) × (get_elem? s.views j ≡ some u)). let them = h.seats j u t.1 in record {
-                noted = them.noted;
-                opening_is = them.opening_is;
-                log = λ z. let o = them.log z in record {
-                  number = o.number;
-                  view = o.view;
-                  words = o.words;
-                  up_is = o.up_is;
-                  made = o.made;
-                  calls = o.calls;
-                };
-                own = λ z y. let o = them.own z y in record {
-                  number = o.number;
-                  inside = o.inside;
-                  view = o.view;
-                  word = o.word;
-                  settled = else u.place (λ y. t.0 (o.number ∙ ap k.seat y ∙ sym own.number)) ∙ o.settled;
-                  calls = o.calls;
-                };
-              })
-              (at_set s.views id j w u e);
+                  (λ (t : (j ≢ id) × (get_elem? s.views j ≡ some u)). let them = h.seats j u t.1 in record {
+                    noted = them.noted;
+                    opening_is = them.opening_is;
+                    log = λ z. let o = them.log z in record {
+                      number = o.number;
+                      view = o.view;
+                      words = o.words;
+                      up_is = o.up_is;
+                      made = o.made;
+                      calls = o.calls;
+                    };
+                    own = λ z y. let o = them.own z y in record {
+                      number = o.number;
+                      inside = o.inside;
+                      view = o.view;
+                      word = o.word;
+                      settled = else u.place (λ y. t.0 (o.number ∙ ap k.seat y ∙ sym own.number)) ∙ o.settled;
+                      calls = o.calls;
+                    };
+                  })
+                  (at_set s.views id j w u e);
             },
           ),
           (y, refl, home.2),

@@ -89,7 +89,11 @@ impl<S: FitsBatches> Content<S> {
         ensures requests { HasNoRequests self.new }
     {
         self.front = answers.front;
-        let _ = (answers.answers.len(), answers.gifts.len(), answers.completions.len());
+        let _ = (
+            answers.answers.len(),
+            answers.gifts.len(),
+            answers.completions.len(),
+        );
         while let Some(answer) = answers.answers.pop() {
             self.answers.push(answer);
         }

@@ -8,18 +8,18 @@ ghost use Rattle.tm_toggle.specs.Shared.{IsSized, IsSame, shared_theory};
 ghost use Rattle.tm_toggle.specs.Opened.{maker, IsFirstSide};
 ghost use Rattle.tm_toggle.specs.Contents.{no_content};
 
+use crate::content::Content;
 use crate::fitting::Shareable;
 use crate::ruling::{Makes, Order, Settles};
 use crate::shared::SharedTable;
 use crate::sides::{Key, SharedClient, SharedTrustee};
-use crate::content::Content;
 use crate::view::View;
 use atomic_table::{Seat, Table};
 use std::alloc::{AllocError, Global};
 use std::marker::Brand;
 use std::sync::Arc;
-use tm_ghost::{GhostList, Items};
 use tm_batch::{Config, First};
+use tm_ghost::{GhostList, Items};
 
 impl<S: Shareable> SharedTable<S> {
     /// The table of trustee `number`, one client's side for each of its `config.clients + number`

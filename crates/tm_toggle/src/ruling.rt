@@ -2,12 +2,12 @@
 ghost use Rattle.tm_toggle.specs.Ruled.{opening_by, Delegates};
 ghost use Rattle.tm_toggle.specs.Plays.{first_view, publishes, collects, sees, lays, lifts, answers, settles, with_client, new_client, client_note, trustee_note, noted, spent, compares, follows};
 
-use crate::sides::Key;
 use crate::content::Content;
+use crate::sides::Key;
 use crate::view::View;
 use atomic_table::{Join, Play, Split, TableRule};
 use std::marker::PhantomData;
-use tm_pair::{Since, FitsBatches};
+use tm_pair::{FitsBatches, Since};
 
 /// The rule: words, slots at home and all views show one good core.
 pub struct Order<S> {
