@@ -1,5 +1,5 @@
 -- What calls leave of a core, and when a batch may be answered. Other crates import this file.
-use Rattle.std.proofs.Common.{◌≡◌, ℕ, zero, suc, ◌<◌, List, [], ◌∷◌, ◌++◌, length, map, refl, sym, ◌∙◌, ap, subst}
+use Rattle.std.proofs.Common.{◌≡◌, ℕ, ◌<◌, List, [], ◌∷◌, ◌++◌, length, map, refl, sym, ◌∙◌, ap, subst}
 use Rattle.std.specs.Prelude.{IsSomeAnd}
 use Rattle.std.specs.declared.option.Option.{Option}
 use Rattle.std.specs.declared.option.Option.TheVariants.{None, Some}
@@ -19,12 +19,9 @@ use Rattle.tm_pair.specs.Moves.{answer_taken, after_move, after_moves, core_afte
 use Rattle.tm_pair.specs.declared.table.Collected.{Collected}
 use Rattle.tm_pair.specs.declared.table.Collected.TheVariants.{Answers, Pending, Idle}
 use Rattle.tm_pair.specs.declared.moves.Move.{Move}
+use Rattle.tm_pair.proofs.Lists.{of_some, map-replicate}
 use Rattle.tm_pair.proofs.Standing.{is_in_hand, hand_at, hand_in_range}
 use Rattle.tm_pair.proofs.Stepping.{IsLook}
-
-found : {X : Type 0} (o : Option X) (P : X → Type 0) → IsSomeAnd o P → (x : X) × (o ≡ Some x) × P x
-found None P h = absurd h
-found (Some x) P h = (x, refl, h)
 
 module _ {V O R T : Type 0} where
   after-append : (xs ys : List (Move V O R T)) (core : FullCore V O R T) → after_moves (xs ++ ys) core ≡ after_moves ys (after_moves xs core)
@@ -64,7 +61,7 @@ module _ {V O R T : Type 0} where
       → (hand : BatchView V O R T) × (hand_of view c ≡ Some hand) × (hand_of (trustee_of core) c ≡ Some hand) × (c < length core.slots)
       × ((slot_of core c).box ≡ Taken hand.requests hand.room) × MayGrow kind opening core.log resumes c hand.requests hand.room a
   may_be_answered kind opening core view c resumes a e may =
-      let (hand, is, grows) = found (hand_of view c) (λ hand. MayGrow kind opening view.log resumes c hand.requests hand.room a) may in
+      let (hand, is, grows) = of_some (hand_of view c) (λ hand. MayGrow kind opening view.log resumes c hand.requests hand.room a) may in
       let there : hand_of (trustee_of core) c ≡ Some hand = ap (λ (v : TrusteeView V O R T). hand_of v c) (sym e) ∙ is in
       let boxed : hand_in (slot_of core c).box ≡ Some hand = sym (hand_at core c) ∙ there in (
         hand,
@@ -75,18 +72,14 @@ module _ {V O R T : Type 0} where
         subst (λ (v : TrusteeView V O R T). MayGrow kind opening v.log resumes c hand.requests hand.room a) e grows,
       )
 
-map_replicate : {X Y : Type 0} (f : X → Y) (n : ℕ) (x : X) → map f (replicate n x) ≡ replicate n (f x)
-map_replicate f zero x = refl
-map_replicate f (suc n) x = ap (λ l. f x ∷ l) (map_replicate f n x)
-
 module _ {V O R T : Type 0} where
   -- the sides of a core at first
   pub first_trustee : (places : ℕ) → trustee_of {V = V} {O = O} {R = R} {T = T} (first_core places) ≡ new_trustee places
   first_trustee places =
       ap (λ hands. record { log = []; hands = hands; looks = map (λ (slot : FullSlot V O R T). slot.trustee) (replicate places no_slot) })
-      (map_replicate (λ (slot : FullSlot V O R T). hand_in slot.box) places no_slot)
+      (map-replicate (λ (slot : FullSlot V O R T). hand_in slot.box) places no_slot)
       ∙ ap (λ looks. record { log = []; hands = replicate places None; looks = looks })
-      (map_replicate (λ (slot : FullSlot V O R T). slot.trustee) places no_slot)
+      (map-replicate (λ (slot : FullSlot V O R T). slot.trustee) places no_slot)
 
   pub first_client : (places c : ℕ) → c < places → client_of {V = V} {O = O} {R = R} {T = T} c (slot_of (first_core places) c) ≡ new_client c
   first_client places c lt = ap (λ s. client_of c s) (get_or-replicate places c no_slot no_slot lt)

@@ -1,6 +1,6 @@
--- What is in hand after a call of the trustee.
+-- What is in hand after a call of the trustee. Other crates import this file.
 use Rattle.std.proofs.Common.{◌≡◌, ◌≢◌, ℕ, ◌<◌, List, length, sym, ◌∙◌, ap, subst, slice_index_or, get_or-set_same, get_or-set_other}
-use Rattle.std.specs.Prelude.{IsSomeAnd, MatchOption}
+use Rattle.std.specs.Prelude.{IsSomeAnd}
 use Rattle.std.specs.declared.option.Option.{Option}
 use Rattle.std.specs.declared.option.Option.TheVariants.{None, Some}
 use Rattle.tm_seq.specs.Kind.{Kind}
@@ -9,7 +9,7 @@ use Rattle.tm_batch.specs.declared.message.AnswerBatch.{AnswerBatch}
 use Rattle.tm_model.specs.declared.entry.Entry.{Entry}
 use Rattle.tm_model.specs.State.{State, place_count}
 use Rattle.tm_pair.specs.Views.{TrusteeView, hand_of}
-use Rattle.tm_pair.specs.Calls.{SeesNothing, Takes, HasAnswered}
+use Rattle.tm_pair.specs.Calls.{Sees, HasAnswered}
 use Rattle.tm_pair.specs.Sides.{IsGoodTrustee}
 
 module _ {V O R T : Type 0} where
@@ -32,7 +32,7 @@ module _ {V O R T : Type 0} (kind : Kind V O R T) (opening : State V O R T) wher
   -- a batch that was found is in hand
   pub batch_taken :
       (c : ℕ) (seen : Option (Batch V O R T)) (P : Batch V O R T → Type 0) (old new : TrusteeView V O R T) → c < length old.hands
-      → MatchOption seen (SeesNothing c old new) (λ b. Takes kind opening c b.requests.items b.room old new) → IsSomeAnd seen P
+      → Sees kind opening c seen old new → IsSomeAnd seen P
       → (b : Batch V O R T) × P b × (hand_of new c ≡ Some (record { requests = b.requests.items; room = b.room }))
   batch_taken c None P old new lt sees some = absurd some
   batch_taken c (Some b) P old new lt takes some = (
@@ -45,7 +45,7 @@ module _ {V O R T : Type 0} (kind : Kind V O R T) (opening : State V O R T) wher
   -- the others stay
   pub other_seen :
       (c d : ℕ) (seen : Option (Batch V O R T)) (old new : TrusteeView V O R T) → d ≢ c
-      → MatchOption seen (SeesNothing c old new) (λ b. Takes kind opening c b.requests.items b.room old new) → hand_of new d ≡ hand_of old d
+      → Sees kind opening c seen old new → hand_of new d ≡ hand_of old d
   other_seen c d None old new ne sees = ap (λ hands. slice_index_or hands d None) sees.hands
   other_seen c d (Some b) old new ne takes =
       ap (λ hands. slice_index_or hands d None) takes.hands

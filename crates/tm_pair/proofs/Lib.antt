@@ -1,6 +1,7 @@
 pub mod Calling
 pub mod Handing
 pub mod Keeping
+pub mod Lists
 pub mod Nothing
 mod Opening
 mod Owing

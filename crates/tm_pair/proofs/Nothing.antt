@@ -1,6 +1,6 @@
--- A batch that asks nothing: a good side may send it, and a good trustee's log may grow by it.
+-- A batch that asks nothing: a good side may send it, and a good trustee's log may grow by it. Other crates import this file.
 use Rattle.std.proofs.Common.{◌≡◌, ◌≢◌, ℕ, ◌+◌, ◌-◌, ◌^◌, ◌<◌, ◌≤◌, min, cond, List, [], ◌∷◌, ◌++◌, length, take, refl, sym, ◌∙◌, ap, subst, eq-eqb, append-nil, slice_index_or, get_or-set_same}
-use Rattle.std.specs.Prelude.{IsSomeAnd, MatchOption}
+use Rattle.std.specs.Prelude.{IsSomeAnd}
 use Rattle.std.specs.declared.option.Option.{Option}
 use Rattle.std.specs.declared.option.Option.TheVariants.{None, Some}
 use Rattle.std.proofs.Math.Seq.{take-nil}
@@ -20,7 +20,7 @@ use Rattle.tm_model.specs.Laws.{StatesAreSound, LegalLogsJoin, BatchesHaveAllAns
 use Rattle.tm_model.specs.Leaving.{BatchesJoin}
 use Rattle.tm_model.specs.Entries.{added}
 use Rattle.tm_pair.specs.Views.{ClientView, TrusteeView, hand_of}
-use Rattle.tm_pair.specs.Calls.{SeesNothing, Takes, HasAnswered}
+use Rattle.tm_pair.specs.Calls.{Sees, HasAnswered}
 use Rattle.tm_pair.specs.Sides.{IsGoodClient, IsGoodTrustee}
 use Rattle.tm_pair.specs.Rounds.{NothingWaits, AnswersNothing, AnswersFound}
 use Rattle.tm_pair.proofs.Handing.{hand_in_range, hand_answered, other_answered, batch_taken, other_seen}
@@ -91,7 +91,7 @@ module _ {V O R T : Type 0} (kind : Kind V O R T) (opening : State V O R T) wher
 
   pub nothing_taken :
       (c : ℕ) (seen : Option (Batch V O R T)) (old new : TrusteeView V O R T) → IsGoodTrustee kind opening old → c < place_count opening.setup
-      → MatchOption seen (SeesNothing c old new) (λ b. Takes kind opening c b.requests.items b.room old new) → IsSomeAnd seen (λ b. b.requests.items ≡ [])
+      → Sees kind opening c seen old new → IsSomeAnd seen (λ b. b.requests.items ≡ [])
       → (room : ℕ) × (hand_of new c ≡ Some (record { requests = []; room = room }))
   nothing_taken c seen old new good lt sees some =
       let (b, none, is) = batch_taken kind opening c seen (λ b. b.requests.items ≡ []) old new (hand_in_range kind opening c old good lt) sees some in (
@@ -101,7 +101,7 @@ module _ {V O R T : Type 0} (kind : Kind V O R T) (opening : State V O R T) wher
 
   pub seeing_keeps_log :
       (c : ℕ) (seen : Option (Batch V O R T)) (old new : TrusteeView V O R T)
-      → MatchOption seen (SeesNothing c old new) (λ b. Takes kind opening c b.requests.items b.room old new) → new.log ≡ old.log
+      → Sees kind opening c seen old new → new.log ≡ old.log
   seeing_keeps_log c None old new sees = sees.log
   seeing_keeps_log c (Some b) old new takes = takes.log
 
@@ -118,7 +118,7 @@ module _ {V O R T : Type 0} (kind : Kind V O R T) (opening : State V O R T) wher
   -- what was found was answered
   pub found_answered :
       (c : ℕ) (seen : Option (Batch V O R T)) (old mid new : TrusteeView V O R T) → c < length old.hands
-      → MatchOption seen (SeesNothing c old mid) (λ b. Takes kind opening c b.requests.items b.room old mid)
+      → Sees kind opening c seen old mid
       → IsSomeAnd seen (λ b. b.requests.items ≡ []) → new.looks ≡ mid.looks
       → ((room : ℕ) → hand_of mid c ≡ Some (record { requests = []; room = room }) → AnswersNothing c room mid new) → AnswersFound c seen old new
   found_answered c None old mid new lt sees some looks answered = absurd some
@@ -140,7 +140,7 @@ module _ {V O R T : Type 0} (kind : Kind V O R T) (opening : State V O R T) wher
   -- nothing was found, or what was found asks something
   pub found_kept :
       (c : ℕ) (seen : Option (Batch V O R T)) (old new : TrusteeView V O R T) → c < length old.hands
-      → MatchOption seen (SeesNothing c old new) (λ b. Takes kind opening c b.requests.items b.room old new)
+      → Sees kind opening c seen old new
       → ¬ IsSomeAnd seen (λ b. b.requests.items ≡ []) → AnswersFound c seen old new
   found_kept c None old new lt sees asks = sees
   found_kept c (Some b) old new lt takes asks = (

@@ -1,5 +1,5 @@
 -- What comes back to a side that had nothing out and asked nothing.
-use Rattle.std.proofs.Common.{◌≡◌, ℕ, ◌≤◌, false, true, List, [], ◌∷◌, ◌++◌, length, refl, sym, ◌∙◌, ap, subst, arith, append-nil, length-append}
+use Rattle.std.proofs.Common.{◌≡◌, ℕ, ◌≤◌, false, true, List, [], ◌∷◌, ◌++◌, length, sym, ◌∙◌, ap, subst, arith, append-nil}
 use Rattle.std.specs.declared.option.Option.TheVariants.{None, Some}
 use Rattle.tm_seq.specs.Kind.{Kind}
 use Rattle.tm_batch.specs.declared.message.Request.{Request}
@@ -23,14 +23,7 @@ use Rattle.tm_pair.specs.Sides.{HasRun, IsGoodClient}
 use Rattle.tm_pair.specs.Rounds.{GetsNothing, FindsNothing}
 use Rattle.tm_pair.specs.declared.table.Collected.{Collected}
 use Rattle.tm_pair.specs.declared.table.Collected.TheVariants.{Answers, Pending, Idle}
-
-none : {X : Type 0} (l : List X) → length l ≤ 0 → l ≡ []
-none [] h = refl
-none (x ∷ l) h = let no : ⊥ = omega (arith, h) in absurd no
-
--- what joins a list to itself is empty
-same_join : {X : Type 0} (l m : List X) → l ≡ l ++ m → m ≡ []
-same_join l m e = let n : length l ≡ length (l ++ m) = ap (λ x. length x) e in let joined = length-append l m in none m (omega (arith, n, joined))
+use Rattle.tm_pair.proofs.Lists.{nil_by_length, same_join}
 
 module _ {V O R T : Type 0} (kind : Kind V O R T) (opening : State V O R T) where
   -- a side with nothing out has seen all that it sent run
@@ -87,14 +80,14 @@ module _ {V O R T : Type 0} (kind : Kind V O R T) (opening : State V O R T) wher
       ∙ ap (λ l. l ++ others ++ Sent mid.place room ∷ []) asks.seen ∙ ap (λ c. old.seen ++ others ++ Sent c room ∷ []) asks.place
       ∙ ap (λ r. old.seen ++ others ++ Sent old.place r ∷ []) rooms in
       record {
-        answers = none a.answers.items (omega (arith, count, few));
-        gifts = none a.gifts.items (omega (arith, most, rooms));
+        answers = nil_by_length a.answers.items (omega (arith, count, few));
+        gifts = nil_by_length a.gifts.items (omega (arith, most, rooms));
         completions = λ ended.
             let all = ended_were_sent new after gets.out in
             let launches = ap (λ l. launches_in l) sent in
             let more = ap (λ l. ended_in l) got in
             let joined = ended_in-append old.got (a ∷ []) in
-            none a.completions.items (omega (arith, ended, all, launches, more, joined));
+            nil_by_length a.completions.items (omega (arith, ended, all, launches, more, joined));
         place = place;
         sent = sent;
         got = got;

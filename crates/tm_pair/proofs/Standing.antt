@@ -1,8 +1,7 @@
 -- The sides of a good core are good. Other crates import this file.
-use Rattle.std.proofs.Common.{◌≡◌, ℕ, ◌-◌, ◌<◌, ◌≤◌, List, [], ◌∷◌, ◌++◌, length, drop, inl, inr, refl, sym, ◌∙◌, ap, subst, arith, append-nil, append_assoc, length-append, eq-eqb}
+use Rattle.std.proofs.Common.{◌≡◌, ℕ, ◌<◌, ◌≤◌, List, [], ◌∷◌, ◌++◌, length, inl, inr, refl, sym, ◌∙◌, ap, subst, arith, append-nil, append_assoc, length-append}
 use Rattle.std.specs.declared.option.Option.TheVariants.{None, Some}
 use Rattle.std.proofs.Math.ListN.{get_or-map}
-use Rattle.std.proofs.Math.Seq.{drop-append_seam}
 use Rattle.std.proofs.lemmas.List.{length-map, get_or_past}
 use Rattle.std.proofs.lemmas.Bool.{cases_lt}
 use Rattle.tm_seq.specs.Kind.{Kind}
@@ -14,31 +13,21 @@ use Rattle.tm_model.specs.declared.entry.Entry.TheVariants.{Sent}
 use Rattle.tm_model.specs.State.{State}
 use Rattle.tm_model.specs.Legal.{IsLegal}
 use Rattle.tm_model.specs.Slots.{Empty, Asked, Taken, Answered, no_slot, slot_of}
-use Rattle.tm_model.specs.GoodSlots.{Left, left_by, IsSettled, IsCutAt, HasSeen, IsSeen, IsUpTo, Shows}
+use Rattle.tm_model.specs.GoodSlots.{HasSeen, IsSeen, IsUpTo, Shows}
 use Rattle.tm_model.specs.Good.{FullBox, FullSlot, FullCore, IsGood, IsOutInOrder}
-use Rattle.tm_model.specs.Ran.{mark_of, ran, waiting_after}
+use Rattle.tm_model.specs.Ran.{mark_of, ran}
 use Rattle.tm_model.specs.Batches.{batches}
 use Rattle.tm_model.specs.Entries.{entries_by, batch_entries}
 use Rattle.tm_model.specs.Holds.{answers_in}
 use Rattle.tm_model.specs.Laws.{IsOpening}
-use Rattle.tm_core.proofs.AllAnswers.{batches_have_all_answers}
-use Rattle.tm_core.proofs.Marks.{left-append, ran-append}
+use Rattle.tm_core.proofs.ClientAnswers.{cut_settled, answers_are_as_many}
+use Rattle.tm_core.proofs.Marks.{ran-append}
 use Rattle.tm_core.proofs.Promised.{batches_are_promised}
 use Rattle.tm_core.proofs.Tallies.{answers_in-append}
 use Rattle.tm_pair.specs.Views.{BatchView, hand_of}
 use Rattle.tm_pair.specs.Sides.{HasRun, IsGoodClient, IsGoodHand, IsGoodTrustee}
 use Rattle.tm_pair.specs.SideViews.{batch_out, hand_in, client_of, trustee_of}
-
-is_nil : {X : Type 0} (l : List X) → length l ≤ 0 → l ≡ []
-is_nil [] h = refl
-is_nil (x ∷ l) h = let no : ⊥ = omega (arith, h) in absurd no
-
--- the last of a list, as many as were joined to it
-pub last_sent : {X : Type 0} (sent run b : List X) (n : ℕ) → sent ≡ run ++ b → n ≡ length b → drop (length sent - n) sent ≡ b
-last_sent sent run b n is many =
-    let joined = length-append run b in
-    let at : length (run ++ b) - n ≡ length run = omega (arith, joined, many) in
-    ap (λ l. drop (length l - n) l) is ∙ ap (λ k. drop k (run ++ b)) at ∙ drop-append_seam run b
+use Rattle.tm_pair.proofs.Lists.{nil_by_length, last_joined}
 
 module _ {V O R T : Type 0} where
   -- a hand shows a batch that was taken
@@ -62,31 +51,6 @@ module _ {V O R T : Type 0} where
       ]
 
 module _ {V O R T : Type 0} (kind : Kind V O R T) (opening : State V O R T) where
-  -- behind each entry of a log that ends with the leaving of a batch of place c, a batch of c left
-  settled_by_last :
-      (c room : ℕ) (front : List (Entry V O R T)) (e : Entry V O R T) → mark_of e ≡ Left c room → IsSettled mark_of c (front ++ e ∷ [])
-  settled_by_last c room [] e at = (rw at (λ h. absurd h), tt)
-  settled_by_last c room (x ∷ front) e at =
-      let last : left_by mark_of c (e ∷ []) ≡ 1 = rw (at, eq-eqb c c refl) refl in
-      let all = left-append mark_of c front (e ∷ []) in
-      (λ h. omega (arith, last, all), settled_by_last c room front e at)
-
-  -- a log that is cut at a place is settled for it
-  cut_settled :
-      (c : ℕ) (got : List (AnswerBatch V O R T)) (log : List (Entry V O R T)) → IsCutAt mark_of (batches kind opening) (IsLegal kind opening) c got log
-      → IsSettled mark_of c log
-  cut_settled c [] log cut = rw cut tt
-  cut_settled c (g ∷ got) log (front, e, room, is, at) = rw is (settled_by_last c room front e at)
-
-  -- as many answers left for a place by such a log as requests of it were run
-  as_many_left : (c : ℕ) (log : List (Entry V O R T)) → IsSettled mark_of c log → length (answers_in (batches kind opening c log)) ≡ length (ran c log)
-  as_many_left c log settled =
-      let (all, many, none) = batches_have_all_answers kind opening log c in
-      let joined = length-append (answers_in (batches kind opening c log)) (waiting_after c [] log) in
-      let left = ap (λ l. length l) all in
-      let waits = ap (λ l. length l) (none settled) in
-      omega (arith, joined, left, waits, many)
-
   -- what came before the entries of a batch whose answers are back ran nothing of its place beside what the place had seen
   only_the_batch :
       (c room : ℕ) (slot : FullSlot V O R T) (log upto others : List (Entry V O R T)) (a : AnswerBatch V O R T) (b : List (Request V O R T))
@@ -97,8 +61,8 @@ module _ {V O R T : Type 0} (kind : Kind V O R T) (opening : State V O R T) wher
   only_the_batch c room slot log upto others a b seen back is many sent =
       let front = slot.seen ++ others ++ entries_by c (length (ran c (slot.seen ++ others))) b a.answers.items in
       let ends : upto ≡ front ++ Sent c room ∷ [] = is ∙ sym (append_assoc (slot.seen ++ others) _ (Sent c room ∷ [])) in
-      let all = as_many_left c upto (rw ends (settled_by_last c room front (Sent c room) refl)) in
-      let before = as_many_left c slot.seen (cut_settled c slot.got slot.seen seen.cut) in
+      let all = (answers_are_as_many kind opening upto c (a ∷ []) (front, Sent c room, room, ends, refl)).2 in
+      let before = (answers_are_as_many kind opening slot.seen c slot.got seen.cut).2 in
       let got = ap (λ l. length (answers_in l)) back.leaves in
       let was = ap (λ l. length (answers_in l)) seen.leaves in
       let grown = ap (λ l. length l) (answers_in-append slot.got (a ∷ [])) in
@@ -110,7 +74,7 @@ module _ {V O R T : Type 0} (kind : Kind V O R T) (opening : State V O R T) wher
       let apart = ran-append mark_of c slot.seen others in
       let counts = ap (λ l. length l) apart in
       let sum = length-append (ran c slot.seen) (ran c others) in
-      let none : ran c others ≡ [] = is_nil (ran c others) (omega (arith, all, before, got, was, grown, joined, one, run, asked, parts, counts, sum, many)) in
+      let none : ran c others ≡ [] = nil_by_length (ran c others) (omega (arith, all, before, got, was, grown, joined, one, run, asked, parts, counts, sum, many)) in
       sent ∙ ap (λ l. l ++ b) (apart ∙ ap (λ l. ran c slot.seen ++ l) none ∙ append-nil (ran c slot.seen))
 
   has_run :
@@ -125,7 +89,7 @@ module _ {V O R T : Type 0} (kind : Kind V O R T) (opening : State V O R T) wher
   has_run (Answered a upto room) slot c log own seen shows out =
       let (b, others, sent, most, many, grown) = out.answers in
       let run = only_the_batch c room slot log upto others a b own shows grown many sent in
-      let last = last_sent slot.sent (ran c slot.seen) b (length a.answers.items) run many in
+      let last = last_joined slot.sent (ran c slot.seen) b (length a.answers.items) run many in
       (run ∙ ap (λ l. ran c slot.seen ++ l) (sym last), subst (λ l. length l ≤ MOST_REQUESTS) (sym last) most, out.most_gifts)
 
   pub client_good :
@@ -141,7 +105,7 @@ module _ {V O R T : Type 0} (kind : Kind V O R T) (opening : State V O R T) wher
         is_legal = own.seen.is_legal;
         leaves = own.seen.leaves;
         cut = own.seen.cut;
-        settled = cut_settled c slot.got slot.seen own.seen.cut;
+        settled = cut_settled mark_of (batches kind opening) (IsLegal kind opening) c slot.got slot.seen own.seen.cut;
         runs = has_run slot.box slot c core.log own.seen own.seen.runs own.shows accounts.out;
         enough = accounts.enough;
         window = accounts.window;

@@ -1,6 +1,6 @@
 -- What each step of a core does to what its sides stand for. Other crates import this file.
 use Rattle.std.proofs.Common.{◌≡◌, ◌≢◌, ℕ, ◌<◌, Bool, true, false, List, ◌++◌, length, map, slice_set, inl, inr, refl, sym, ◌∙◌, ap, subst, get_or-set_same, get_or-set_other}
-use Rattle.std.specs.Prelude.{IsSomeAnd, MatchOption}
+use Rattle.std.specs.Prelude.{IsSomeAnd}
 use Rattle.std.specs.declared.option.Option.{Option}
 use Rattle.std.specs.declared.option.Option.TheVariants.{None, Some}
 use Rattle.std.proofs.Math.ListN.{get_or-map}
@@ -20,11 +20,11 @@ use Rattle.tm_model.specs.Entries.{added}
 use Rattle.tm_model.specs.Answering.{answer_with}
 use Rattle.tm_model.specs.Laws.{IsPromised}
 use Rattle.tm_pair.specs.Views.{BatchView, hand_of, looks_at}
-use Rattle.tm_pair.specs.Calls.{Publishes, IsPending, Collects, SeesNothing, Takes, HasAnswered}
+use Rattle.tm_pair.specs.Calls.{Publishes, IsPending, Collects, Sees, HasAnswered}
 use Rattle.tm_pair.specs.Moves.{FindsAsked, FindsAnswered, answers_found}
 use Rattle.tm_pair.specs.declared.table.Collected.{Collected}
 use Rattle.tm_pair.specs.declared.table.Collected.TheVariants.{Answers, Pending, Idle}
-use Rattle.tm_pair.proofs.Standing.{last_sent}
+use Rattle.tm_pair.proofs.Lists.{last_joined}
 use Rattle.tm_pair.specs.SideViews.{batch_out, hand_in, client_of, trustee_of}
 
 module _ {V O R T : Type 0} where
@@ -142,7 +142,7 @@ module _ {V O R T : Type 0} where
           room,
           record {
             out = ap (λ (x : FullBox V O R T). batch_out x slot.sent) at
-                ∙ ap (λ l. Some (record { requests = l; room = room })) (last_sent slot.sent (ran c (slot.seen ++ others)) b (length a.answers.items) sent many);
+                ∙ ap (λ l. Some (record { requests = l; room = room })) (last_joined slot.sent (ran c (slot.seen ++ others)) b (length a.answers.items) sent many);
             answers = many;
             gifts = out.gifts;
             completions = out.completions;
@@ -196,8 +196,7 @@ module _ {V O R T : Type 0} where
       (kind : Kind V O R T) (opening : State V O R T) (core : FullCore V O R T) (c : ℕ) (given : Option (Batch V O R T))
       → FindsAsked given (slot_of core c).box
       → ((b : List (Request V O R T)) (room : ℕ) → (slot_of core c).box ≡ Asked b room → IsPromised kind opening core.log c b)
-      → MatchOption given (SeesNothing c (trustee_of core) (trustee_of (see c core)))
-      (λ b. Takes kind opening c b.requests.items b.room (trustee_of core) (trustee_of (see c core)))
+      → Sees kind opening c given (trustee_of core) (trustee_of (see c core))
   sees kind opening core c None finds promised = record {
     log = refl;
     hands = same_hands core c (seen_slot (slot_of core c)) (same_hand (slot_of core c).box finds);
@@ -221,7 +220,7 @@ module _ {V O R T : Type 0} where
       let slot = slot_of core c in
       same_clients core c (answered a (core.log ++ added core.log resumes c b room a.answers.items) room slot) d lt
       (ap (λ out. record { place = c; sent = slot.sent; got = slot.got; seen = slot.seen; out = out; looks = slot.client })
-      (ap (λ l. Some (record { requests = l; room = room })) (last_sent slot.sent run b (length a.answers.items) sent many)
+      (ap (λ l. Some (record { requests = l; room = room })) (last_joined slot.sent run b (length a.answers.items) sent many)
       ∙ ap (λ (x : FullBox V O R T). batch_out x slot.sent) (sym taken_is)))
 
   pub answers :

@@ -1,9 +1,10 @@
 -- What each call of a table does to what its side stands for.
-use Rattle.std.specs.Prelude.{◌≡◌, ℕ, ◌≤◌, Bool, true, false, List, [], ◌∷◌, ◌++◌, length, slice_set, IsSomeAnd}
+use Rattle.std.specs.Prelude.{◌≡◌, ℕ, ◌≤◌, Bool, true, false, List, [], ◌∷◌, ◌++◌, length, slice_set, IsSomeAnd, MatchOption}
 use Rattle.std.specs.declared.option.Option.TheVariants.{None, Some}
 use Rattle.tm_seq.specs.Kind.{Kind}
 use Rattle.std.specs.declared.option.Option.{Option}
 use Rattle.tm_batch.specs.declared.limits.TheConstants.{MOST_COMPLETIONS}
+use Rattle.tm_batch.specs.declared.batch.Batch.{Batch}
 use Rattle.tm_batch.specs.declared.message.Request.{Request}
 use Rattle.tm_batch.specs.declared.message.AnswerBatch.{AnswerBatch}
 use Rattle.tm_model.specs.declared.entry.Entry.{Entry}
@@ -95,6 +96,10 @@ module _ {V O R T : Type 0} where
     pub hands : new.hands ≡ slice_set old.hands c (Some (record { requests = b; room = room }))
     pub looks : LooksAt c true old new
     pub promised : IsPromised kind opening old.log c b
+
+  -- what a look of the trustee at place c gave says what it did
+  abbrev pub Sees : Kind V O R T → State V O R T → ℕ → Option (Batch V O R T) → TrusteeView V O R T → TrusteeView V O R T → Type 0
+  Sees kind opening c given old new = MatchOption given (SeesNothing c old new) (λ b. Takes kind opening c b.requests.items b.room old new)
 
   -- the batch of place c is in hand, and the log may grow by some resumes and by it, answered by a
   abbrev pub MayAnswer : Kind V O R T → State V O R T → ℕ → List (Entry V O R T) → AnswerBatch V O R T → TrusteeView V O R T → Type 0

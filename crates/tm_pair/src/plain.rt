@@ -1,9 +1,9 @@
 //! A table whose sides are all in one thread.
-ghost use Rattle.std.specs.Prelude.{◌≡◌, ◌<◌, MatchOption, IsOk, OnOk, OnErr, IfErr, ◌↔◌};
+ghost use Rattle.std.specs.Prelude.{◌≡◌, ◌<◌, IsOk, OnOk, OnErr, IfErr, ◌↔◌};
 ghost use Rattle.std.specs.declared.option.Option.TheVariants.{None};
 ghost use Rattle.tm_model.specs.State.{place_count};
 ghost use Rattle.tm_pair.specs.Views.{hand_of};
-ghost use Rattle.tm_pair.specs.Calls.{MaySend, Publishes, Collects, OnLook, SeesNothing, Takes, MayAnswer, HasAnswered};
+ghost use Rattle.tm_pair.specs.Calls.{MaySend, Publishes, Collects, OnLook, Sees, MayAnswer, HasAnswered};
 ghost use Rattle.tm_pair.specs.Moves.{answer_of};
 ghost use Rattle.tm_pair.specs.Theory.{KeepsSides, KeepsClients};
 ghost use Rattle.tm_pair.specs.declared.moves.Move.TheVariants.{Publish, See, Collect};
@@ -63,7 +63,7 @@ impl<S: FitsTable> PairTable<S> for PlainTable<S> {
 
     ghost theory = { plain_theory S.kind };
 
-    /// The words, boxes, floors and looks are exactly those of the step, or as before with `Held`.
+    /// `did` tells the words, boxes, floors and looks exactly; with `Held` they are as before.
     fn publish(&mut self, side: &mut PlainClient<S>, batch: Batch<S>) -> Result<(), Held<S>>
         requires mine { IsClientOf S.kind self.old side.old }
         requires orderly { MaySend (opening_at self.old) (client_at side.old) batch.requests.items }
@@ -86,7 +86,8 @@ impl<S: FitsTable> PairTable<S> for PlainTable<S> {
         Ok(())
     }
 
-    /// The words, boxes, floors and looks are exactly those of the step, or as before with `Idle`.
+    /// `did` tells the words, boxes, floors and looks exactly, and what stood in the box; with `Idle`
+    /// they are as before.
     fn collect(&mut self, side: &mut PlainClient<S>) -> Collected<S>
         requires mine { IsClientOf S.kind self.old side.old }
         ensures collects { Collects (client_at side.old) (client_at side.new) result }
@@ -103,12 +104,13 @@ impl<S: FitsTable> PairTable<S> for PlainTable<S> {
         found
     }
 
-    /// The words, boxes, floors and looks are exactly those of the step.
+    /// `did` tells the words, boxes, floors and looks exactly, and what stood in the box: a batch is found
+    /// exactly where one was asked.
     fn see(&mut self, side: &mut PlainTrustee<S>, client: u32) -> Option<Batch<S>>
         requires mine { IsTrusteeOf S.kind self.old side.old }
         requires in_range { client < place_count (opening_at self.old).setup }
         requires free { hand_of (trustee_at side.old) client ≡ None }
-        ensures sees { MatchOption result (SeesNothing client (trustee_at side.old) (trustee_at side.new)) (λ b. Takes S.kind (opening_at self.old) client b.requests.items b.room (trustee_at side.old) (trustee_at side.new)) }
+        ensures sees { Sees S.kind (opening_at self.old) client result (trustee_at side.old) (trustee_at side.new) }
         ensures did { HasDone (See client result) self.old self.new }
         ensures keeps { KeepsClients (plain_theory S.kind) self.old self.new side.new }
     {
@@ -118,7 +120,7 @@ impl<S: FitsTable> PairTable<S> for PlainTable<S> {
         given
     }
 
-    /// The words, boxes, floors and looks are exactly those of the step.
+    /// `did` tells the words, boxes, floors and looks exactly.
     fn answer<E: Since<S, S::Op, S::Reply, S::Task>>(
         &mut self,
         side: &mut PlainTrustee<S>,

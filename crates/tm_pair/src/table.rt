@@ -6,12 +6,12 @@
 //! the one log behind them. For [`PlainTable`](crate::PlainTable) that is what `HasClient` and `HasTrustee`
 //! say (`IsClientOf` and `IsTrusteeOf` in specs/Plain.antt): the table's core is good, and what a side
 //! stands for is what that core shows of its slot, or of the trustee.
-ghost use Rattle.std.specs.Prelude.{◌≡◌, ◌<◌, List, [], MatchOption, IsOk, OnOk, OnErr, IfErr, ◌↔◌};
+ghost use Rattle.std.specs.Prelude.{◌≡◌, ◌<◌, List, [], IsOk, OnOk, OnErr, IfErr, ◌↔◌};
 ghost use Rattle.std.specs.declared.option.Option.TheVariants.{None};
 ghost use Rattle.tm_model.specs.State.{place_count};
 ghost use Rattle.tm_model.specs.declared.entry.Entry.{Entry};
 ghost use Rattle.tm_pair.specs.Views.{hand_of};
-ghost use Rattle.tm_pair.specs.Calls.{MaySend, Publishes, Collects, OnLook, SeesNothing, Takes, MayAnswer, HasAnswered};
+ghost use Rattle.tm_pair.specs.Calls.{MaySend, Publishes, Collects, OnLook, Sees, MayAnswer, HasAnswered};
 ghost use Rattle.tm_pair.specs.Moves.{answer_of};
 ghost use Rattle.tm_pair.specs.Theory.{Theory, KeepsSides, KeepsClients, TheoryLaws};
 ghost use Rattle.tm_pair.specs.declared.moves.Move.TheVariants.{Publish, See, Collect};
@@ -68,7 +68,7 @@ pub trait PairTable<S: Entrusted> {
 
     /// Sends a batch to the trustee, or hands it back where the last one was not collected. The batch
     /// has to be orderly after what the side sent and got: the side then holds each id that a request
-    /// names, a grant is to a client, at most 64 launches lack their completion, a `Bye` stands alone
+    /// names, a grant is to a client, at most `WINDOW` launches lack their completion, a `Bye` stands alone
     /// and nothing follows it, and a trustee's place sends applies and a `Bye` alone.
     fn publish(&mut self, side: &mut Self::ClientSide, batch: Batch<S>) -> Result<(), Held<S>>
         requires mine { theory.HasClient self.old side.old }
@@ -96,7 +96,7 @@ pub trait PairTable<S: Entrusted> {
         requires mine { theory.HasTrustee self.old side.old }
         requires in_range { client < place_count (theory.opening self.old).setup }
         requires free { hand_of (theory.trustee_view side.old) client ≡ None }
-        ensures sees { MatchOption result (SeesNothing client (theory.trustee_view side.old) (theory.trustee_view side.new)) (λ b. Takes S.kind (theory.opening self.old) client b.requests.items b.room (theory.trustee_view side.old) (theory.trustee_view side.new)) }
+        ensures sees { Sees S.kind (theory.opening self.old) client result (theory.trustee_view side.old) (theory.trustee_view side.new) }
         ensures did { theory.Did (See client result) self.old self.new }
         ensures keeps { KeepsClients theory self.old self.new side.new };
 

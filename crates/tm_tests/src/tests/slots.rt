@@ -1,8 +1,6 @@
 //! A table in one thread, call by call.
 ghost use Rattle.std.specs.Prelude.{◌≡◌, [], IsTrue};
-ghost use Rattle.tm_model.specs.Slots.{no_slot};
-ghost use Rattle.tm_model.specs.Laws.{first_of};
-ghost use Rattle.tm_pair.specs.Stands.{client_of, trustee_of};
+ghost use Rattle.tm_pair.specs.Views.{new_client, new_trustee};
 ghost use Rattle.tm_tests.specs.Sample.{sample};
 
 mod answering;
@@ -43,11 +41,11 @@ fn one_place<P: PairTable<Less>>(
     client: &mut P::ClientSide,
     trustee: &mut P::TrusteeSide,
 )
-    requires client { P.HasClient table.old client.old }
-    requires trustee { P.HasTrustee table.old trustee.old }
-    requires opening { P.opening table.old ≡ sample (record { by = 4 }) }
-    requires first { P.client_view client.old ≡ client_of 0 no_slot }
-    requires log { P.trustee_view trustee.old ≡ trustee_of (first_of (sample (record { by = 4 }))) }
+    requires client { P.theory.HasClient table.old client.old }
+    requires trustee { P.theory.HasTrustee table.old trustee.old }
+    requires opening { P.theory.opening table.old ≡ sample (record { by = 4 }) }
+    requires first { P.theory.client_view client.old ≡ new_client 0 }
+    requires log { P.theory.trustee_view trustee.old ≡ new_trustee 2 }
 {
     assert!(rt; ask_two(table, client).is_ok());
     assert!(rt; is_seven(ask_over(table, client, seven())), "held");
@@ -78,11 +76,11 @@ fn round_goes<P: PairTable<Less>>(
     client: &mut P::ClientSide,
     trustee: &mut P::TrusteeSide,
 )
-    requires client { P.HasClient table.old client.old }
-    requires trustee { P.HasTrustee table.old trustee.old }
-    requires opening { P.opening table.old ≡ sample (record { by = 4 }) }
-    requires first { P.client_view client.old ≡ client_of 0 no_slot }
-    requires log { P.trustee_view trustee.old ≡ trustee_of (first_of (sample (record { by = 4 }))) }
+    requires client { P.theory.HasClient table.old client.old }
+    requires trustee { P.theory.HasTrustee table.old trustee.old }
+    requires opening { P.theory.opening table.old ≡ sample (record { by = 4 }) }
+    requires first { P.theory.client_view client.old ≡ new_client 0 }
+    requires log { P.theory.trustee_view trustee.old ≡ new_trustee 2 }
 {
     assert!(rt; comes_empty(once_round(table, client, trustee, 0, 1)));
 }
@@ -95,13 +93,13 @@ fn gift_goes<P: PairTable<Less>>(
     one: &mut P::ClientSide,
     trustee: &mut P::TrusteeSide,
 )
-    requires zero { P.HasClient table.old zero.old }
-    requires one { P.HasClient table.old one.old }
-    requires trustee { P.HasTrustee table.old trustee.old }
-    requires opening { P.opening table.old ≡ sample (record { by = 4 }) }
-    requires first { P.client_view zero.old ≡ client_of 0 no_slot }
-    requires next { P.client_view one.old ≡ client_of 1 no_slot }
-    requires log { P.trustee_view trustee.old ≡ trustee_of (first_of (sample (record { by = 4 }))) }
+    requires zero { P.theory.HasClient table.old zero.old }
+    requires one { P.theory.HasClient table.old one.old }
+    requires trustee { P.theory.HasTrustee table.old trustee.old }
+    requires opening { P.theory.opening table.old ≡ sample (record { by = 4 }) }
+    requires first { P.theory.client_view zero.old ≡ new_client 0 }
+    requires next { P.theory.client_view one.old ≡ new_client 1 }
+    requires log { P.theory.trustee_view trustee.old ≡ new_trustee 2 }
 {
     assert!(rt; ask_grant(table, zero).is_ok());
     assert!(rt; answer_grant(table, trustee));

@@ -1,8 +1,8 @@
 //! What the clients of these tests ask.
 ghost use Rattle.std.specs.Prelude.{◌≡◌, ◌≢◌, ℕ, ◌∷◌, [], IsOk};
 ghost use Rattle.std.specs.declared.option.Option.TheVariants.{Some};
-ghost use Rattle.tm_model.specs.Slots.{no_slot};
-ghost use Rattle.tm_pair.specs.Stands.{client_of};
+ghost use Rattle.tm_pair.specs.Views.{new_client};
+ghost use Rattle.tm_pair.specs.Theory.{KeepsSides};
 ghost use Rattle.tm_tests.specs.Sample.{sample, two_asked, one_granted};
 
 use super::less::Less;
@@ -40,14 +40,12 @@ pub(super) fn ask_two<P: PairTable<Less>>(
     table: &mut P,
     side: &mut P::ClientSide,
 ) -> Result<(), Held<Less>>
-    requires mine { P.HasClient table.old side.old }
-    requires opening { P.opening table.old ≡ sample (record { by = 4 }) }
-    requires first { P.client_view side.old ≡ client_of 0 no_slot }
+    requires mine { P.theory.HasClient table.old side.old }
+    requires opening { P.theory.opening table.old ≡ sample (record { by = 4 }) }
+    requires first { P.theory.client_view side.old ≡ new_client 0 }
     ensures free { IsOk result }
-    ensures out { (P.client_view side.new).out ≡ Some 0 }
-    ensures mine { P.HasClient table.new side.new }
-    ensures opening { P.opening table.new ≡ P.opening table.old }
-    ensures trustee { (other : P.TrusteeSide) → P.HasTrustee table.old other → P.HasTrustee table.new other }
+    ensures out { (P.theory.client_view side.new).out ≡ Some (record { requests = two_asked; room = 0 }) }
+    ensures keeps { KeepsSides P.theory table.old table.new side.old side.new }
 {
     table.publish(side, two())
 }
@@ -58,12 +56,10 @@ pub(super) fn ask_over<P: PairTable<Less>>(
     side: &mut P::ClientSide,
     batch: Batch<Less>,
 ) -> Result<(), Held<Less>>
-    requires mine { P.HasClient table.old side.old }
-    requires out { (P.client_view side.old).out ≡ Some 0 }
-    ensures out { (P.client_view side.new).out ≡ Some 0 }
-    ensures mine { P.HasClient table.new side.new }
-    ensures opening { P.opening table.new ≡ P.opening table.old }
-    ensures trustee { (other : P.TrusteeSide) → P.HasTrustee table.old other → P.HasTrustee table.new other }
+    requires mine { P.theory.HasClient table.old side.old }
+    requires out { (P.theory.client_view side.old).out ≡ Some (record { requests = two_asked; room = 0 }) }
+    ensures out { (P.theory.client_view side.new).out ≡ Some (record { requests = two_asked; room = 0 }) }
+    ensures keeps { KeepsSides P.theory table.old table.new side.old side.new }
 {
     table.publish(side, batch)
 }
@@ -73,14 +69,11 @@ pub(super) fn ask_grant<P: PairTable<Less>>(
     table: &mut P,
     side: &mut P::ClientSide,
 ) -> Result<(), Held<Less>>
-    requires mine { P.HasClient table.old side.old }
-    requires opening { P.opening table.old ≡ sample (record { by = 4 }) }
-    requires first { P.client_view side.old ≡ client_of 0 no_slot }
-    ensures place { (P.client_view side.new).place ≡ 0 }
-    ensures mine { P.HasClient table.new side.new }
-    ensures opening { P.opening table.new ≡ P.opening table.old }
-    ensures clients { (other : P.ClientSide) → (P.client_view other).place ≢ 0 → P.HasClient table.old other → P.HasClient table.new other }
-    ensures trustee { (other : P.TrusteeSide) → P.HasTrustee table.old other → P.HasTrustee table.new other }
+    requires mine { P.theory.HasClient table.old side.old }
+    requires opening { P.theory.opening table.old ≡ sample (record { by = 4 }) }
+    requires first { P.theory.client_view side.old ≡ new_client 0 }
+    ensures place { (P.theory.client_view side.new).place ≡ 0 }
+    ensures keeps { KeepsSides P.theory table.old table.new side.old side.new }
 {
     table.publish(side, grant())
 }
@@ -90,13 +83,10 @@ pub(super) fn ask_gifts<P: PairTable<Less>>(
     table: &mut P,
     side: &mut P::ClientSide,
 ) -> Result<(), Held<Less>>
-    requires mine { P.HasClient table.old side.old }
-    requires place { (P.client_view side.old).place ≡ 1 }
-    ensures place { (P.client_view side.new).place ≡ 1 }
-    ensures mine { P.HasClient table.new side.new }
-    ensures opening { P.opening table.new ≡ P.opening table.old }
-    ensures clients { (other : P.ClientSide) → (P.client_view other).place ≢ 1 → P.HasClient table.old other → P.HasClient table.new other }
-    ensures trustee { (other : P.TrusteeSide) → P.HasTrustee table.old other → P.HasTrustee table.new other }
+    requires mine { P.theory.HasClient table.old side.old }
+    requires place { (P.theory.client_view side.old).place ≡ 1 }
+    ensures place { (P.theory.client_view side.new).place ≡ 1 }
+    ensures keeps { KeepsSides P.theory table.old table.new side.old side.new }
 {
     table.publish(side, Batch::new(16))
 }

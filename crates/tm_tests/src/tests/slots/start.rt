@@ -1,6 +1,7 @@
 //! A table with one object, which client 0 holds.
 ghost use Rattle.std.specs.Prelude.{◌≡◌, IfOk};
-ghost use Rattle.tm_pair.specs.Opened.{IsOpened};
+ghost use Rattle.tm_pair.specs.Theory.{IsNewTable};
+ghost use Rattle.tm_pair.specs.Plain.{plain_theory};
 ghost use Rattle.tm_tests.specs.Sample.{less_kind, sample, sample_first};
 
 use super::less::Less;
@@ -26,7 +27,7 @@ fn first(alloc: Global) -> Result<Vec<First<Less>>, AllocError>
 pub(super) fn start(
     alloc: Global,
 ) -> Result<(PlainTable<Less>, Vec<PlainClient<Less>>, PlainTrustee<Less>), AllocError>
-    ensures { IfOk result (λ r. IsOpened (less_kind (λ v. v.by)) (sample (record { by = 4 })) r.0 r.1.items r.2) }
+    ensures { IfOk result (λ r. IsNewTable (plain_theory (less_kind (λ v. v.by))) (sample (record { by = 4 })) r.0 r.1.items r.2) }
 {
     let config = Config {
         clients: 2,

@@ -1,11 +1,10 @@
 use Rattle.std.proofs.Common.{refl, sym, ◌∙◌, ap, subst}
-use Rattle.std.specs.Prelude.{MatchOption}
 use Rattle.tm_model.specs.Slots.{slot_of, see}
 use Rattle.tm_core.proofs.Accounts.{see_keeps_good}
 use Rattle.tm_core.proofs.Promised.{batches_are_promised}
 use Rattle.tm_pair.specs.SideViews.{client_of, trustee_of}
 use Rattle.tm_pair.specs.Moves.{core_after}
-use Rattle.tm_pair.specs.Calls.{SeesNothing, Takes}
+use Rattle.tm_pair.specs.Calls.{Sees}
 use Rattle.tm_pair.specs.Plain.{opening_at, core_at}
 use Rattle.tm_pair.specs.declared.moves.Move.TheVariants.{See}
 use Rattle.tm_pair.proofs.Stepping as stepping
@@ -38,10 +37,8 @@ returns g c =
     (λ b room asked. (batches_are_promised kind opening core at b room (opens kind table of) of.good lt).0 asked) in
     record {
       sees =
-          subst (λ old. MatchOption c.see-given.result (SeesNothing at old (trustee_of (core_after c.again-side.result.items)))
-          (λ b. Takes kind opening at b.requests.items b.room old (trustee_of (core_after c.again-side.result.items)))) (sym c.requires.mine.view)
-          (subst (λ k. MatchOption c.see-given.result (SeesNothing at (trustee_of core) (trustee_of k))
-          (λ b. Takes kind opening at b.requests.items b.room (trustee_of core) (trustee_of k))) (sym again) sees);
+          subst (λ old. Sees kind opening at c.see-given.result old (trustee_of (core_after c.again-side.result.items))) (sym c.requires.mine.view)
+          (subst (λ k. Sees kind opening at c.see-given.result (trustee_of core) (trustee_of k)) (sym again) sees);
       did = record { may = finds; core = step };
       keeps = record {
         same = refl;

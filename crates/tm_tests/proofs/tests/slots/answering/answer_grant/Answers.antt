@@ -7,10 +7,10 @@ use Rattle.tm_tests.proofs.tests.slots.answering.answer_grant.Goals as goal
 
 pub reply_granted-requires-clause-hand : goal.reply_granted-requires-clause-hand
 reply_granted-requires-clause-hand g c =
-    let opening = g.P.PairTable.opening c.args.table.now in
-    let old = g.P.PairTable.trustee_view c.args.side.now in
-    let new = g.P.PairTable.trustee_view c.see-seen.new.side in
-    let good = g.met.P.PairTable.trustee_is_good c.args.table.now c.args.side.now c.requires.mine in
+    let opening = g.P.PairTable.theory.opening c.args.table.now in
+    let old = g.P.PairTable.theory.trustee_view c.args.side.now in
+    let new = g.P.PairTable.theory.trustee_view c.see-seen.new.side in
+    let good = g.met.P.PairTable.laws.trustee_is_good c.args.table.now c.args.side.now c.requires.mine in
     let lt : 0 < place_count opening.setup = subst (λ s. 0 < place_count s.setup) (sym c.requires.opening) (omega arith) in
     let (b, asks, is) =
     batch_taken _ opening 0 c.see-seen.result (λ b. b.requests.items ≡ one_granted) old new (hand_in_range _ opening 0 old good lt)

@@ -4,7 +4,7 @@ use Rattle.tm_tests.proofs.tests.slots.answering.reply_granted.Goals as goal
 
 pub answer-requires : goal.answer-requires
 answer-requires g c =
-    let good = g.met.P.PairTable.trustee_is_good c.args.table.now c.args.side.now c.requires.mine in
+    let good = g.met.P.PairTable.laws.trustee_is_good c.args.table.now c.args.side.now c.requires.mine in
     let (room, is) = c.requires.hand in
     let most = (good.in_hand 0 _ is).most_gifts in
     let answers = c.granted.ensures in (

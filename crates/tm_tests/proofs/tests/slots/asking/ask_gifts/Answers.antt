@@ -5,9 +5,9 @@ use Rattle.tm_tests.proofs.tests.slots.asking.ask_gifts.Goals as goal
 
 pub publish-requires : goal.publish-requires
 publish-requires g c =
-    let opening = g.P.PairTable.opening c.args.table.now in
-    let view = g.P.PairTable.client_view c.args.side.now in
-    let good = g.met.P.PairTable.client_is_good c.args.table.now c.args.side.now c.requires.mine in (
+    let opening = g.P.PairTable.theory.opening c.args.table.now in
+    let view = g.P.PairTable.theory.client_view c.args.side.now in
+    let good = g.met.P.PairTable.laws.client_is_good c.args.table.now c.args.side.now c.requires.mine in (
       lit< tt,
       (
         lit< tt,
