@@ -1,5 +1,6 @@
 //! The machine, step by step.
 use crate::{Core, Step, StepRefused};
+use std::alloc::{AllocError, Global};
 use std::test::Fail;
 
 /// What became of a step.
@@ -78,38 +79,34 @@ fn one_place_step_by_step(rt: HostRuntime) -> Result<(), Fail> {
     Ok(())
 }
 
+fn numbers(alloc: Global, count: u64) -> Result<Vec<u64>, AllocError> {
+    let mut numbers = Vec::new(alloc);
+    for number in 0..count {
+        numbers.push(number)?;
+    }
+    Ok(numbers)
+}
+
 #[test]
 fn sixteen_requests_at_once(rt: HostRuntime) -> Result<(), Fail> {
     let alloc = rt.alloc();
     let mut core = Core::new(alloc, 1)?;
-    let mut requests = Vec::new(alloc);
-    let mut more = Vec::new(alloc);
-    let mut answers = Vec::new(alloc);
-    for request in 0..16u64 {
-        requests.push(request)?;
-        more.push(request)?;
-        answers.push(request + 100)?;
-    }
-    more.push(16)?;
-    assert_eq!(rt;
-        outcome(core.step(Step::Publish {
-            client: 0,
-            requests: more
-        })),
-        Fate::NotAllowed
-    );
-    assert_eq!(rt;
-        outcome(core.step(Step::Publish {
-            client: 0,
-            requests
-        })),
-        Fate::Made
-    );
+    let requests = numbers(alloc, 17)?;
+    let more = core.step(Step::Publish {
+        client: 0,
+        requests,
+    });
+    assert_eq!(rt; outcome(more), Fate::NotAllowed);
+    let requests = numbers(alloc, 16)?;
+    let published = core.step(Step::Publish {
+        client: 0,
+        requests,
+    });
+    assert_eq!(rt; outcome(published), Fate::Made);
     assert_eq!(rt; outcome(core.step(Step::See { client: 0 })), Fate::Made);
-    assert_eq!(rt;
-        outcome(core.step(Step::Answer { client: 0, answers })),
-        Fate::Made
-    );
+    let answers = numbers(alloc, 16)?;
+    let answered = core.step(Step::Answer { client: 0, answers });
+    assert_eq!(rt; outcome(answered), Fate::Made);
     assert_eq!(rt;
         core.ran(0),
         [0, 1, 2, 3, 4, 5, 6, 7, 8, 9, 10, 11, 12, 13, 14, 15].as_slice()
