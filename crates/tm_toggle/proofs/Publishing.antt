@@ -7,6 +7,7 @@ use lib.ListN.{get_elem?}
 use Rattle.atomic_table.specs.Table.{step, gives, Allows}
 use Rattle.atomic_table.proofs.Lists.{set_here, set_else}
 use Rattle.tm_seq.specs.Kind.{Kind}
+use Rattle.tm_batch.specs.declared.limits.TheConstants.{MOST_REQUESTS, MOST_ROOM}
 use Rattle.tm_batch.specs.declared.batch.Batch.{Batch}
 use Rattle.tm_model.specs.State.{State}
 use Rattle.tm_model.specs.Slots.{Empty, no_slot, slot_of, publish, published, first_core}
@@ -56,7 +57,7 @@ module _ {V O R T : Type 0} (kind : Kind V O R T) (opening : State V O R T) wher
   publishes_at :
       (slots id : ℕ) (v : View V O R T) (y : Content V O R T) (i new : ℕ) → v.trustee ≡ false → v.note ≡ false → v.settled ≡ true → opening_in v ≡ opening
       → (client_in v.place v.past.items).out ≡ None → IsOrderly opening v.place (client_in v.place v.past.items).sent (client_in v.place v.past.items).got (batch_in y).requests.items
-      → length (batch_in y).requests.items ≤ 16 → y.room ≤ 16 → HasNoAnswers y → i ≡ r_of v.place → new ≡ 1 - bit (asks v.past.items v.place)
+      → length (batch_in y).requests.items ≤ MOST_REQUESTS → y.room ≤ MOST_ROOM → HasNoAnswers y → i ≡ r_of v.place → new ≡ 1 - bit (asks v.past.items v.place)
       → Allows (Delegates kind opening) slots id (v, (v.place, y) ∷ []) i (λ _. new) (λ _. publishes kind (step slots i new 0 none) (v, (v.place, y) ∷ []) new)
   unfolding SameElse
   publishes_at slots id v y i new mine plain settled begins none_out orderly most most_gifts clear is flip s r deep at _ =
@@ -136,7 +137,7 @@ module _ {V O R T : Type 0} (kind : Kind V O R T) (opening : State V O R T) wher
   pub publishes_as :
       (slots id : ℕ) (m : Sat V O R T) (v : View V O R T) (y : Content V O R T) (i new : ℕ) → m ≡ (v, (v.place, y) ∷ []) → v.trustee ≡ false → v.note ≡ false → v.settled ≡ true → opening_in v ≡ opening
       → (client_in v.place v.past.items).out ≡ None → IsOrderly opening v.place (client_in v.place v.past.items).sent (client_in v.place v.past.items).got (batch_in y).requests.items
-      → length (batch_in y).requests.items ≤ 16 → y.room ≤ 16 → HasNoAnswers y → i ≡ r_of v.place → new ≡ 1 - bit (asks v.past.items v.place)
+      → length (batch_in y).requests.items ≤ MOST_REQUESTS → y.room ≤ MOST_ROOM → HasNoAnswers y → i ≡ r_of v.place → new ≡ 1 - bit (asks v.past.items v.place)
       → Allows (Delegates kind opening) slots id m i (λ _. new) (λ _. publishes kind (step slots i new 0 none) m new)
   publishes_as slots id m v y i new e mine plain settled begins none_out orderly most most_gifts clear is flip =
       subst (λ (z : Sat V O R T). Allows (Delegates kind opening) slots id z i (λ _. new) (λ _. publishes kind (step slots i new 0 none) z new)) (sym e)

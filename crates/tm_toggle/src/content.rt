@@ -3,8 +3,14 @@ ghost use Rattle.std.specs.Prelude.{◌≡◌, [], reverse};
 ghost use Rattle.tm_toggle.specs.Contents.{batch_in, answers_in, HasNoRequests, HasNoAnswers, no_content};
 
 use arrayvec::ArrayVec;
-use tm_batch::{Answer, AnswerBatch, Batch, Completion, Name, Request, Room};
+use tm_batch::{
+    Answer, AnswerBatch, Batch, Completion, MOST_COMPLETIONS, MOST_REQUESTS, MOST_ROOM, Name,
+    Request, Room,
+};
 use tm_pair::FitsBatches;
+
+/// How many gifts leave at most, as many as a batch has room for.
+const MOST_LEAVING: usize = MOST_ROOM as usize;
 
 /// What stands in a slot: nothing, a batch, or the answers to one.
 ///
@@ -13,10 +19,10 @@ use tm_pair::FitsBatches;
 pub struct Content<S: FitsBatches> {
     pub(crate) front: u64,
     pub(crate) room: Room,
-    pub(crate) requests: ArrayVec<Request<S>, 16>,
-    pub(crate) answers: ArrayVec<Answer<S>, 16>,
-    pub(crate) gifts: ArrayVec<Name, 16>,
-    pub(crate) completions: ArrayVec<Completion<S>, 16>,
+    pub(crate) requests: ArrayVec<Request<S>, MOST_REQUESTS>,
+    pub(crate) answers: ArrayVec<Answer<S>, MOST_REQUESTS>,
+    pub(crate) gifts: ArrayVec<Name, MOST_LEAVING>,
+    pub(crate) completions: ArrayVec<Completion<S>, MOST_COMPLETIONS>,
     /// Keeps the next slot 128 bytes away.
     pub(crate) apart: [u64; 16],
 }

@@ -1,9 +1,9 @@
 //! A table for many threads.
-ghost use Rattle.std.specs.Prelude.{◌≡◌, ◌<◌, MatchOption, IsOk, OnOk, OnErr, IfErr, ◌↔◌};
+ghost use Rattle.std.specs.Prelude.{◌≡◌, ◌<◌, IsOk, OnOk, OnErr, IfErr, ◌↔◌};
 ghost use Rattle.std.specs.declared.option.Option.TheVariants.{None};
 ghost use Rattle.tm_model.specs.State.{place_count};
 ghost use Rattle.tm_pair.specs.Views.{hand_of};
-ghost use Rattle.tm_pair.specs.Calls.{MaySend, Publishes, Collects, OnLook, SeesNothing, Takes, MayAnswer, HasAnswered};
+ghost use Rattle.tm_pair.specs.Calls.{MaySend, Publishes, Collects, OnLook, Sees, MayAnswer, HasAnswered};
 ghost use Rattle.tm_pair.specs.Moves.{answer_of};
 ghost use Rattle.tm_pair.specs.Theory.{KeepsSides, KeepsClients};
 ghost use Rattle.tm_pair.specs.declared.moves.Move.TheVariants.{Publish, See, Collect};
@@ -99,7 +99,7 @@ impl<S: Shareable> PairTable<S> for SharedTable<S> {
         requires mine { IsTrusteeOf S.kind self.old side.old }
         requires in_range { client < place_count (opening_at self.old).setup }
         requires free { hand_of (trustee_at side.old) client ≡ None }
-        ensures sees { MatchOption result (SeesNothing client (trustee_at side.old) (trustee_at side.new)) (λ b. Takes S.kind (opening_at self.old) client b.requests.items b.room (trustee_at side.old) (trustee_at side.new)) }
+        ensures sees { Sees S.kind (opening_at self.old) client result (trustee_at side.old) (trustee_at side.new) }
         ensures did { Unit {0} }
         ensures keeps { KeepsClients (shared_theory S.kind) self.old self.new side.new }
         ensures next { IsNext IsByTrustee (trustee_past side.old) (trustee_past side.new) (See client result) }

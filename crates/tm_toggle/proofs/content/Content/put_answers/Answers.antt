@@ -1,12 +1,13 @@
 use Rattle.std.proofs.Common.{rules, ◌≡◌, ℕ, ◌+◌, ◌<◌, ◌≤◌, List, [], ◌∷◌, ◌++◌, length, refl, sym, ◌∙◌, ap, arith}
 use Rattle.tm_toggle.proofs.Pouring.{one_more, as_many, none_left, all_over, back, begun, begun_long, length_snoc, gone}
+use Rattle.tm_batch.specs.declared.limits.TheConstants.{MOST_REQUESTS, MOST_ROOM, MOST_COMPLETIONS}
 use Rattle.tm_toggle.proofs.content.Content.put_answers.Goals as goal
 
 pub loop-answer-preserved : goal.loop-answer-preserved
 loop-answer-preserved g c =
     let i = c.loop-answer.invariant in
     record {
-      answers = (one_more _ _ _ _ c.in-Some.answer _ c.in-Some.ensures.items c.push.ensures.items i.answers.0, as_many _ _ _ _ c.in-Some.answer 16 c.in-Some.ensures.items c.push.ensures.items i.answers.1);
+      answers = (one_more _ _ _ _ c.in-Some.answer _ c.in-Some.ensures.items c.push.ensures.items i.answers.0, as_many _ _ _ _ c.in-Some.answer MOST_REQUESTS c.in-Some.ensures.items c.push.ensures.items i.answers.1);
       gifts = i.gifts;
       completions = i.completions;
       requests = i.requests;
@@ -19,7 +20,7 @@ loop-gift-init g c =
     let none = none_left c.loop-answer.answers.answers.items c.pop.result c.pop.ensures.variant c.in_default.not-Some in
     record {
       answers = (all_over _ _ _ none i.answers.0, gone c.loop-answer.answers.answers.items c.pop.new.self.items c.pop.ensures.rest none);
-      gifts = (begun _ _ _ i.gifts.0 (ap (λ x. x.items) i.gifts.1), begun_long _ _ _ 16 i.gifts.0 (ap (λ x. x.items) i.gifts.1) i.gifts.2);
+      gifts = (begun _ _ _ i.gifts.0 (ap (λ x. x.items) i.gifts.1), begun_long _ _ _ MOST_ROOM i.gifts.0 (ap (λ x. x.items) i.gifts.1) i.gifts.2);
       completions = i.completions;
       requests = i.requests;
       front = i.front;
@@ -30,7 +31,7 @@ loop-gift-preserved g c =
     let i = c.loop-gift.invariant in
     record {
       answers = i.answers;
-      gifts = (one_more _ _ _ _ c.in-Some-pop.gift _ c.in-Some-pop.ensures.items c.push-in-Some-pop.ensures.items i.gifts.0, as_many _ _ _ _ c.in-Some-pop.gift 16 c.in-Some-pop.ensures.items c.push-in-Some-pop.ensures.items i.gifts.1);
+      gifts = (one_more _ _ _ _ c.in-Some-pop.gift _ c.in-Some-pop.ensures.items c.push-in-Some-pop.ensures.items i.gifts.0, as_many _ _ _ _ c.in-Some-pop.gift MOST_ROOM c.in-Some-pop.ensures.items c.push-in-Some-pop.ensures.items i.gifts.1);
       completions = i.completions;
       requests = i.requests;
       front = i.front;
@@ -43,7 +44,7 @@ loop-completion-init g c =
     record {
       answers = i.answers;
       gifts = (all_over _ _ _ none i.gifts.0, gone c.loop-gift.answers.gifts.items c.pop-in-loop-gift.new.self.items c.pop-in-loop-gift.ensures.rest none);
-      completions = (begun _ _ _ i.completions.0 (ap (λ x. x.items) i.completions.1), begun_long _ _ _ 16 i.completions.0 (ap (λ x. x.items) i.completions.1) i.completions.2);
+      completions = (begun _ _ _ i.completions.0 (ap (λ x. x.items) i.completions.1), begun_long _ _ _ MOST_COMPLETIONS i.completions.0 (ap (λ x. x.items) i.completions.1) i.completions.2);
       requests = i.requests;
       front = i.front;
     }
@@ -57,7 +58,7 @@ loop-completion-preserved g c =
     record {
       answers = i.answers;
       gifts = i.gifts;
-      completions = (one_more _ _ _ _ c.in-Some-pop-2.completion _ c.in-Some-pop-2.ensures.items c.push-in-Some-pop-2.ensures.items i.completions.0, as_many _ _ _ _ c.in-Some-pop-2.completion 16 c.in-Some-pop-2.ensures.items c.push-in-Some-pop-2.ensures.items i.completions.1);
+      completions = (one_more _ _ _ _ c.in-Some-pop-2.completion _ c.in-Some-pop-2.ensures.items c.push-in-Some-pop-2.ensures.items i.completions.0, as_many _ _ _ _ c.in-Some-pop-2.completion MOST_COMPLETIONS c.in-Some-pop-2.ensures.items c.push-in-Some-pop-2.ensures.items i.completions.1);
       requests = i.requests;
       front = i.front;
     }

@@ -1,12 +1,13 @@
 use Rattle.std.proofs.Common.{rules, ◌≡◌, ℕ, ◌+◌, ◌<◌, ◌≤◌, List, [], ◌∷◌, ◌++◌, length, refl, sym, ◌∙◌, ap, arith}
 use Rattle.tm_toggle.proofs.Pouring.{one_more, as_many, none_left, all_over, gone}
+use Rattle.tm_batch.specs.declared.limits.TheConstants.{MOST_REQUESTS}
 use Rattle.tm_toggle.proofs.content.Content.take_batch.Goals as goal
 
 pub loop-request-preserved : goal.loop-request-preserved
 loop-request-preserved g c =
     let i = c.loop-request.invariant in (
       one_more _ _ _ _ c.in-Some.request _ c.in-Some.ensures.items c.push.ensures.items i.0,
-      as_many _ _ _ _ c.in-Some.request 16 c.in-Some.ensures.items c.push.ensures.items i.1,
+      as_many _ _ _ _ c.in-Some.request MOST_REQUESTS c.in-Some.ensures.items c.push.ensures.items i.1,
       record { answers = i.2.answers; gifts = i.2.gifts; completions = i.2.completions },
       i.3,
     )

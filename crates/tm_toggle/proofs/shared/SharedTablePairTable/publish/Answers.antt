@@ -2,6 +2,7 @@ use Rattle.std.proofs.Common.{rules, ◌≡◌, ◌≢◌, ◌<◌, ◌≤◌, �
 use Rattle.std.specs.declared.option.Option.TheVariants.{None, Some}
 use Rattle.atomic_table.specs.Table.{rest, step}
 use mathlib.Core.Option.{none}
+use Rattle.tm_batch.specs.declared.limits.TheConstants.{MOST_REQUESTS, MOST_ROOM}
 use Rattle.tm_model.specs.Orderly.{IsOrderly}
 use Rattle.tm_pair.specs.Calls.{Publishes}
 use Rattle.tm_pair.specs.declared.moves.Move.TheVariants.{Publish}
@@ -53,7 +54,7 @@ store-requires g c =
           (kn.opening_is ∙ ap (λ t. opening_by t.key) (sym d)) h.0
           (subst (λ b. IsOrderly (opening_by c.deref.result.now.shared.key) v.place (client_in v.place v.past.items).sent (client_in v.place v.past.items).got b.requests.items) (sym batch)
           (subst (λ o. IsOrderly o v.place (client_in v.place v.past.items).sent (client_in v.place v.past.items).got c.args.batch.requests.items) (ap (λ t. opening_by t.key) (sym d)) (c.requires.orderly h.0)))
-          (subst (λ b. length b.requests.items ≤ 16) (sym batch) (search rules)) (subst (λ b. b.room ≤ 16) (sym batch) (search rules)) c.put_batch.ensures.answers (ap r_of (sym kn.place))
+          (subst (λ b. length b.requests.items ≤ MOST_REQUESTS) (sym batch) (search rules)) (subst (λ b. b.room ≤ MOST_ROOM) (sym batch) (search rules)) c.put_batch.ensures.answers (ap r_of (sym kn.place))
           (ap (λ (n : ℕ). 1 - n) (kn.word ∙ ap (λ (n : ℕ). bit (asks v.past.items n)) (sym kn.place))),
     )
 
