@@ -6,7 +6,12 @@ ghost use Rattle.tm_toggle.specs.declared.content.Content.{Content};
 ghost use Rattle.tm_toggle.specs.declared.view.View.{View};
 ghost use Rattle.tm_toggle.specs.declared.sides.Key.{Key};
 
+use crate::content::Content;
 use crate::fitting::Shareable;
+use crate::ruling::Order;
+use crate::sides::Key;
+use crate::view::View;
+use atomic_table::TableRule;
 
 /// **One good core between any two atomic steps.** In each state that the rule [`Order`](crate::Order)
 /// of a table allows, one list of calls tells everything: each call could come where it stands, the
@@ -15,5 +20,5 @@ use crate::fitting::Shareable;
 /// read off its seat's view, and each call of a side adds itself, and nothing else of that side's, to
 /// the list (the clauses `next` of [`SharedTable`](crate::SharedTable)'s calls).
 pub fn one_good_core<S: Shareable>()
-    ensures { (key : Key S S.Op S.Reply S.Task) (s : TableState (Content S S.Op S.Reply S.Task) (View S S.Op S.Reply S.Task)) → Delegates S.kind (opening_by key) s → ShowsOneCore S.kind (opening_by key) s }
+    ensures { (key : Key S S.Op S.Reply S.Task) (s : TableState (Content S S.Op S.Reply S.Task) (View S S.Op S.Reply S.Task)) → ⟦<Order<S> as TableRule<Content<S>, View<S>, Key<S>>>⟧.holds key s → ShowsOneCore S.kind (opening_by key) s }
 {}

@@ -5,7 +5,7 @@ ghost use Rattle.tm_model.specs.Opening.{IsBuildable, opening_of};
 ghost use Rattle.tm_toggle.specs.Ruled.{opening_by};
 ghost use Rattle.tm_pair.specs.Theory.{IsNewTable};
 ghost use Rattle.tm_toggle.specs.Shared.{IsSized, IsSame, shared_theory};
-ghost use Rattle.tm_toggle.specs.Opened.{maker, IsFirstSide};
+ghost use Rattle.tm_toggle.specs.Opened.{maker, IsMade, IsFirstSide};
 ghost use Rattle.tm_toggle.specs.Contents.{no_content};
 
 use crate::content::Content;
@@ -36,17 +36,8 @@ impl<S: Shareable> SharedTable<S> {
     {
         let places = config.clients + number;
         let count = places as usize;
-        let key = Key {
-            number,
-            config,
-            first: told(first),
-        };
-        let words = Vec::from_elem(alloc, 0u64, 32 * count + 48)?;
+        let (table, mut seat) = make(alloc, number, config, first)?;
         let replied = Vec::from_elem(alloc, 0u64, count)?;
-        let slots = empties(alloc, count)?;
-        let Ok((table, mut seat)) = Table::new(alloc, words.as_slice(), slots, &key) else {
-            return Err(AllocError);
-        };
         let mut clients = Vec::new(alloc);
         for place in 0..places {
             clients.push(add(&table, &mut seat, place))?;
@@ -70,6 +61,31 @@ impl<S: Shareable> SharedTable<S> {
             table: Arc::try_clone(&self.table)?,
         })
     }
+}
+
+/// The words and slots of the table of trustee `number`, and its first seat, which is the trustee's.
+fn make<S: Shareable>(
+    alloc: Global,
+    number: u32,
+    config: Config,
+    first: &Vec<First<S>>,
+) -> Result<(Table<Content<S>, View<S>, Key<S>, Order<S>, Global>, Seat<Content<S>, View<S>>), AllocError>
+    requires buildable { IsBuildable config first.now.items }
+    requires number { number < config.trustees }
+    ensures { IfOk result (λ t. IsMade (opening_of number config first.now.items) t.0.shared.key t.0.shared.table_id t.1.table_id t.1.me) }
+{
+    let count = (config.clients + number) as usize;
+    let key = Key {
+        number,
+        config,
+        first: told(first),
+    };
+    let words = Vec::from_elem(alloc, 0u64, 32 * count + 48)?;
+    let slots = empties(alloc, count)?;
+    let Ok((table, seat)) = Table::new(alloc, words.as_slice(), slots, &key) else {
+        return Err(AllocError);
+    };
+    Ok((table, seat))
 }
 
 /// Slots at first.
