@@ -1,0 +1,1 @@
+//! The calls on latches, on tasks that are numbers.
