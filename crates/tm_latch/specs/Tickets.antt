@@ -5,8 +5,8 @@ use Rattle.tm_latch.specs.declared.ticket.Ticket.{Ticket}
 
 module _ {K : Type 0} where
   -- a ticket for an object, with its task
-  abbrev pub ticket : ℕ → ℕ → K → Ticket K
-  ticket id number task = record { id = id; number = number; task = task }
+  abbrev pub ticket_for : ℕ → ℕ → K → Ticket K
+  ticket_for id number task = record { id = id; number = number; task = task }
 
   -- the first ticket of an object, which runs
   abbrev pub first_of : ℕ → List (Ticket K) → Option (Ticket K)

@@ -1,6 +1,6 @@
 //! The latches of one trustee.
 ghost use Rattle.std.specs.Prelude.{◌≡◌, ◌<◌, ◌≤◌, [], ◌∷◌, ◌++◌, length, None, IsSome, IfOk, option_map};
-ghost use Rattle.tm_latch.specs.Tickets.{ticket, first_of, without_first};
+ghost use Rattle.tm_latch.specs.Tickets.{ticket_for, first_of, without_first};
 ghost use Rattle.tm_latch.specs.declared.entered.Entered.TheVariants.{Running, Queued};
 
 use crate::entered::Entered;
@@ -79,7 +79,7 @@ impl<K: Drop> Latches<K> {
         requires { length self.old.tickets < self.old.room }
         ensures runs { first_of id self.old.tickets ≡ None → result ≡ Running task }
         ensures waits { IsSome (first_of id self.old.tickets) → result ≡ Queued }
-        ensures entered { self.new ≡ record self.old { tickets = self.old.tickets ++ ticket id ticket task ∷ [] } }
+        ensures entered { self.new ≡ record self.old { tickets = self.old.tickets ++ ticket_for id ticket task ∷ [] } }
     {
         self.known = after_enter(&self.known, id, ticket, &task);
         match line_of(&self.lines, id) {
@@ -118,7 +118,7 @@ impl<K: Drop> Latches<K> {
             drop_line(&mut self.lines, id);
             return None;
         };
-        let (ticket, task, queue) = take_first(&mut self.cells, ends, id);
+        let (ticket, task, queue) = take_first(&mut self.cells, ends);
         set_line(&mut self.lines, id, Line { ticket, queue });
         Some((ticket, task))
     }

@@ -71,10 +71,10 @@ pub fn drop_line(lines: &mut Vec<(u64, Line)>, id: u64)
 }
 
 // Where the line of an object is, or where it would go.
-fn search(lines: &[(u64, Line)], id: u64) -> Result<usize, usize>
-    requires { IsStrictlySorted lines.now }
-    ensures found { IfOk result (IsAt lines.now id) }
-    ensures absent { IfErr result (IsGapFor lines.now id) }
+fn search(lines: &Vec<(u64, Line)>, id: u64) -> Result<usize, usize>
+    requires { IsStrictlySorted lines.now.items }
+    ensures found { IfOk result (IsAt lines.now.items id) }
+    ensures absent { IfErr result (IsGapFor lines.now.items id) }
 {
     lines.binary_search_by_key(&id, |&(key, _)| key)
 }

@@ -1,8 +1,8 @@
 //! The tickets that wait.
-ghost use Rattle.std.specs.Prelude.{◌≡◌, ◌+◌, [], ◌∷◌, ◌++◌, Some};
+ghost use Rattle.std.specs.Prelude.{◌≡◌, ◌+◌, [], ◌∷◌, ◌++◌, ℕ, Some};
 ghost use Rattle.slab.specs.Slab.{slab_len, HasRoomFor};
-ghost use Rattle.tm_latch.specs.Tickets.{ticket};
-ghost use Rattle.tm_latch.specs.Queues.{IsQueue, IsQueueOf, KeepsOthers, AreOf};
+ghost use Rattle.tm_latch.specs.Tickets.{ticket_for};
+ghost use Rattle.tm_latch.specs.Queues.{IsQueue, IsQueueOf, KeepsOthers};
 
 use crate::lines::Ends;
 use slab::Slab;
@@ -20,7 +20,7 @@ pub struct Waiting<K> {
 pub fn append<K>(cells: &mut Slab<Waiting<K>>, queue: Option<Ends>, id: u64, number: u64, task: K) -> Ends
     requires room { HasRoomFor cells.old 1 }
     requires queue { IsQueueOf id cells.old queue }
-    ensures own { (tickets : _) → IsQueue cells.old queue tickets → IsQueue cells.new (Some result) (tickets ++ ticket id number task ∷ []) }
+    ensures own { (tickets : _) → IsQueue cells.old queue tickets → IsQueue cells.new (Some result) (tickets ++ ticket_for id number task ∷ []) }
     ensures others { KeepsOthers id cells.old cells.new }
     ensures len { slab_len cells.new ≡ slab_len cells.old + 1 }
     ensures capacity { cells.new.capacity ≡ cells.old.capacity }
@@ -47,10 +47,10 @@ pub fn append<K>(cells: &mut Slab<Waiting<K>>, queue: Option<Ends>, id: u64, num
 }
 
 /// Takes the first ticket of a queue out, with the queue that is left.
-pub fn take_first<K>(cells: &mut Slab<Waiting<K>>, ends: Ends, _id: u64) -> (u64, K, Option<Ends>)
-    requires { IsQueueOf _id cells.old (Some ends) }
+pub fn take_first<K>(cells: &mut Slab<Waiting<K>>, ends: Ends) -> (u64, K, Option<Ends>)
+    requires { (id : ℕ) × IsQueueOf id cells.old (Some ends) }
     ensures own { (t : _) (rest : _) → IsQueue cells.old (Some ends) (t ∷ rest) → (result.0 ≡ t.number) × (result.1 ≡ t.task) × IsQueue cells.new result.2 rest }
-    ensures others { KeepsOthers _id cells.old cells.new }
+    ensures others { (id : ℕ) → IsQueueOf id cells.old (Some ends) → KeepsOthers id cells.old cells.new }
     ensures len { slab_len cells.new + 1 ≡ slab_len cells.old }
     ensures capacity { cells.new.capacity ≡ cells.old.capacity }
 {

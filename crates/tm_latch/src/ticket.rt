@@ -1,6 +1,6 @@
 //! The tickets that are known, for contracts alone.
 ghost use Rattle.std.specs.Prelude.{◌≡◌, [], ◌∷◌, ◌++◌};
-ghost use Rattle.tm_latch.specs.Tickets.{ticket, without_first};
+ghost use Rattle.tm_latch.specs.Tickets.{ticket_for, without_first};
 
 use std::marker::Brand;
 use tm_ghost::{GhostList, Items};
@@ -23,7 +23,7 @@ pub(crate) fn after_enter<K>(
     number: u64,
     task: &K,
 ) -> GhostList<Ticket<K>>
-    ensures { result.items ≡ known.now.items ++ ticket id number task.now ∷ [] }
+    ensures { result.items ≡ known.now.items ++ ticket_for id number task.now ∷ [] }
 {
     pick_enter::<K, Brand>(known, id, number, task)
 }
