@@ -1,10 +1,12 @@
 -- Lemmas on queues as chains of cells.
 use Rattle.std.proofs.Common.{◌≡◌, ◌≢◌, ℕ, suc, ◌+◌, ◌≤◌, List, [], ◌∷◌, ◌++◌, length, Option, Some, None, refl, sym, ap, ◌∙◌, arith}
-use Rattle.slab.specs.Slab.{Slab, get, Updates}
+use Rattle.std.specs.Prelude.{option_map}
+use Rattle.slab.specs.Slab.{Slab, get, Updates, ContainsKey, with_value}
 use Rattle.tm_latch.specs.declared.lines.Ends.{Ends}
 use Rattle.tm_latch.specs.declared.queues.Waiting.{Waiting}
 use Rattle.tm_latch.specs.declared.ticket.Ticket.{Ticket}
-use Rattle.tm_latch.specs.Queues.{cell_of, Follows, IsQueue, AreOf}
+use Rattle.slab.proofs.SlabLemmas.{Updates-with_value}
+use Rattle.tm_latch.specs.Queues.{cell_of, Follows, IsQueue, AreOf, IsQueueOf, KeepsOthers}
 
 pub some_same : {X : Type 0} (x y : X) → Some x ≡ Some y → x ≡ y
 some_same x y e = cc
@@ -28,7 +30,7 @@ module _ {K : Type 0} where
       → IsQueue old queue tickets → IsQueue new queue tickets
   unfolding IsQueue AreOf
   queue_same id old new same None tickets are q = q
-  queue_same id old new same (Some ends) [] are (t, rest, more, is, q) = absurd (cc)
+  queue_same id old new same (Some ends) [] are (t, rest, more, is, there, f) = absurd (cc)
   queue_same id old new same (Some ends) (u ∷ others) are (t, rest, more, is, there, f) =
       let one : u ≡ t = cc in
       let tail : others ≡ rest = cc in
@@ -46,7 +48,7 @@ module _ {K : Type 0} where
       (id : ℕ) (cells : Slab (Waiting K)) (ends : Ends) (tickets : List (Ticket K)) → AreOf id tickets → IsQueue cells (Some ends) tickets
       → (u : Ticket K) × (u.id ≡ id) × (get cells ends.last ≡ Some (cell_of u None))
   unfolding IsQueue AreOf
-  last_cell id cells ends [] are (t, rest, more, is, q) = absurd (cc)
+  last_cell id cells ends [] are (t, rest, more, is, there, f) = absurd (cc)
   last_cell id cells ends (u ∷ others) are (t, rest, more, is, there, f) =
       let one : u ≡ t = cc in
       let tail : others ≡ rest = cc in
@@ -57,7 +59,7 @@ module _ {K : Type 0} where
       (id : ℕ) (cells : Slab (Waiting K)) (ends : Ends) (tickets : List (Ticket K)) → AreOf id tickets → IsQueue cells (Some ends) tickets
       → (u : Ticket K) × (more : Option ℕ) × (u.id ≡ id) × (get cells ends.first ≡ Some (cell_of u more))
   unfolding IsQueue AreOf
-  first_cell id cells ends [] are (t, rest, more, is, q) = absurd (cc)
+  first_cell id cells ends [] are (t, rest, more, is, there, f) = absurd (cc)
   first_cell id cells ends (u ∷ others) are (t, rest, more, is, there, f) =
       let one : u ≡ t = cc in
       (t, more, rw (← one) are.0, there)
@@ -155,3 +157,65 @@ module _ {K : Type 0} (id : ℕ) (old : Slab (Waiting K)) where
       updates.others k (λ same.
           let one : c ≡ d = some_same _ _ (sym here ∙ (ap (λ (i : ℕ). get old i) (sym same) ∙ there)) in
           absurd (differs (sym of ∙ (ap (λ (x : Waiting K). x.id) (sym one) ∙ mine)))) ∙ there
+
+-- a ticket is put behind a queue: its cell is added, and then the last cell points to it
+module _ {K : Type 0} (id key : ℕ) (t : Ticket K) (old mid : Slab (Waiting K)) (vacant : get old key ≡ None) (added : Updates old mid key (Some (cell_of t None))) where
+  kept_added : (k : ℕ) (c : Waiting K) → get old k ≡ Some c → get mid k ≡ Some c
+  kept_added k c there = added.others k (λ same. let none : None ≡ Some c = sym vacant ∙ (ap (λ (i : ℕ). get old i) (sym same) ∙ there) in absurd (cc)) ∙ there
+
+  pub append_first_others : KeepsOthers id old mid
+  append_first_others other queue tickets differs are q = queue_same other old mid (others_added id old mid key (cell_of t None) vacant added other differs) queue tickets are q
+
+  pub append_has : (ends : Ends) → IsQueueOf id old (Some ends) → ContainsKey mid ends.last
+  append_has ends (tickets, are, q) = let u = last_cell id old ends tickets are q in rw (kept_added ends.last (cell_of u.0 None) u.2) refl
+
+  module _ (ends : Ends) (queue : IsQueueOf id old (Some ends)) (r : Waiting K) (there : get mid ends.last ≡ Some r) where
+    abbrev pub relinked : Waiting K
+    relinked = record { id = r.id; number = r.number; task = r.task; next = Some key }
+
+    updates : Updates mid (with_value mid ends.last relinked) ends.last (Some relinked)
+    updates = Updates-with_value mid ends.last relinked (append_has ends queue)
+
+    pub append_others : KeepsOthers id old (with_value mid ends.last relinked)
+    append_others other other_queue tickets differs are q =
+        let u = last_cell id old ends queue.0 queue.1 queue.2 in
+        let is : cell_of u.0 None ≡ r = some_same _ _ (sym (kept_added ends.last (cell_of u.0 None) u.2) ∙ there) in
+        queue_same other old (with_value mid ends.last relinked) (λ k d here of.
+            others_changed id mid (with_value mid ends.last relinked) ends.last r (Some relinked) there (ap (λ (c : Waiting K). c.id) (sym is) ∙ u.1) updates other differs k d (kept_added k d here) of) other_queue tickets are q
+
+    pub append_own : (tickets : List (Ticket K)) → IsQueue old (Some ends) tickets → IsQueue (with_value mid ends.last relinked) (Some (record { first = ends.first; last = key })) (tickets ++ t ∷ [])
+    append_own tickets q =
+        let u = last_cell id old ends queue.0 queue.1 queue.2 in
+        let is : cell_of u.0 None ≡ r = some_same _ _ (sym (kept_added ends.last (cell_of u.0 None) u.2) ∙ there) in
+        queue_grow old (with_value mid ends.last relinked) ends.last key u.0 t u.2
+        (updates.changed ∙ ap (λ (c : Waiting K). Some (record { id = c.id; number = c.number; task = c.task; next = Some key })) (sym is))
+        (updates.others key (λ same. let none : None ≡ Some (cell_of u.0 None) = sym vacant ∙ (ap (λ (i : ℕ). get old i) same ∙ u.2) in absurd (cc)) ∙ added.changed)
+        (λ k c differs here. updates.others k differs ∙ kept_added k c here)
+        ends.first tickets q
+
+-- the first ticket of a queue is taken out
+module _ {K : Type 0} (old new : Slab (Waiting K)) (ends : Ends) (r : Waiting K) (there : get old ends.first ≡ Some r) (updates : Updates old new ends.first None) where
+  abbrev pub from_first : Option ℕ → Option Ends
+  from_first next = option_map (λ key. record { first = key; last = ends.last }) next
+
+  queue_behind : (rest : List (Ticket K)) (more : Option ℕ) → Follows new ends.first more rest ends.last → IsQueue new (from_first more) rest
+  queue_behind rest None f = queue_none new ends.first rest None ends.last f refl
+  queue_behind rest (Some after) f = queue_left new ends.first rest (Some after) ends.last after f refl
+
+  pub taken_own : (t : Ticket K) (rest : List (Ticket K)) → IsQueue old (Some ends) (t ∷ rest) → (r.number ≡ t.number) × (r.task ≡ t.task) × IsQueue new (from_first r.next) rest
+  unfolding IsQueue
+  taken_own t rest (u, others, more, is, here, f) =
+      let one : u ≡ t = cc in
+      let tail : others ≡ rest = cc in
+      let same : cell_of u more ≡ r = some_same _ _ (sym here ∙ there) in
+      let stays = rest_stays old new ends.first u more others ends.last here f (λ k differs. updates.others k differs) in (
+        ap (λ (c : Waiting K). c.number) (sym same) ∙ ap (λ (x : Ticket K). x.number) one,
+        ap (λ (c : Waiting K). c.task) (sym same) ∙ ap (λ (x : Ticket K). x.task) one,
+        rw (ap (λ (c : Waiting K). c.next) (sym same), ← tail) (queue_behind others more stays),
+      )
+
+  pub taken_others : (id : ℕ) → IsQueueOf id old (Some ends) → KeepsOthers id old new
+  taken_others id (tickets, are, q) other queue others differs are_other p =
+      let first = first_cell id old ends tickets are q in
+      let same : cell_of first.0 first.1 ≡ r = some_same _ _ (sym first.3 ∙ there) in
+      queue_same other old new (others_changed id old new ends.first r None there (ap (λ (c : Waiting K). c.id) (sym same) ∙ first.2) updates other differs) queue others are_other p

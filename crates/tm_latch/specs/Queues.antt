@@ -11,20 +11,20 @@ module _ {K : Type 0} where
   cell_of t next = record { id = t.id; number = t.number; task = t.task; next = next }
 
   -- behind the cell of this key, whose next is this, stand the tickets in order, and the last cell has this key
-  pub Follows : Slab (Waiting K) → ℕ → Option ℕ → List (Ticket K) → ℕ → Type 0
+  unfoldable pub Follows : Slab (Waiting K) → ℕ → Option ℕ → List (Ticket K) → ℕ → Type 0
   Follows cells key next [] last = (next ≡ None) × (key ≡ last)
   Follows cells key next (t ∷ rest) last =
       (after : ℕ) × (more : Option ℕ) × (next ≡ Some after) × (get cells after ≡ Some (cell_of t more)) × Follows cells after more rest last
 
   -- the tickets stand in order from the first cell to the last
-  pub IsQueue : Slab (Waiting K) → Option Ends → List (Ticket K) → Type 0
+  unfoldable pub IsQueue : Slab (Waiting K) → Option Ends → List (Ticket K) → Type 0
   IsQueue cells None tickets = tickets ≡ []
   IsQueue cells (Some ends) tickets =
       (t : Ticket K) × (rest : List (Ticket K)) × (more : Option ℕ) × (tickets ≡ t ∷ rest) × (get cells ends.first ≡ Some (cell_of t more))
       × Follows cells ends.first more rest ends.last
 
   -- tickets of one object
-  pub AreOf : ℕ → List (Ticket K) → Type 0
+  unfoldable pub AreOf : ℕ → List (Ticket K) → Type 0
   AreOf id [] = ⊤
   AreOf id (t ∷ rest) = (t.id ≡ id) × AreOf id rest
 

@@ -10,7 +10,7 @@ use Rattle.tm_latch.specs.Queues.{IsQueue}
 
 module _ {K : Type 0} where
   -- an object has no line where it has no tickets; else the first is in its line, and the others in its queue
-  pub IsLine : Slab (Waiting K) → Option Line → List (Ticket K) → Type 0
+  unfoldable pub IsLine : Slab (Waiting K) → Option Line → List (Ticket K) → Type 0
   IsLine cells None tickets = tickets ≡ []
   IsLine cells (Some line) tickets =
       (t : Ticket K) × (rest : List (Ticket K)) × (tickets ≡ t ∷ rest) × (line.ticket ≡ t.number) × IsQueue cells line.queue rest

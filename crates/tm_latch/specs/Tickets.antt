@@ -17,7 +17,7 @@ module _ {K : Type 0} where
   tickets_of id tickets = filter (λ t. t.id == id) tickets
 
   -- the tickets but the first of an object
-  pub without_first : ℕ → List (Ticket K) → List (Ticket K)
+  unfoldable pub without_first : ℕ → List (Ticket K) → List (Ticket K)
   without_first id [] = []
   without_first id (t ∷ rest) = if t.id == id then rest else t ∷ without_first id rest
 

@@ -1,5 +1,5 @@
 //! The tickets that wait.
-ghost use Rattle.std.specs.Prelude.{◌≡◌, ◌+◌, [], ◌∷◌, ◌++◌, ℕ, Some};
+ghost use Rattle.std.specs.Prelude.{◌≡◌, ◌+◌, [], ◌∷◌, ◌++◌, ℕ, Some, option_map};
 ghost use Rattle.slab.specs.Slab.{slab_len, HasRoomFor};
 ghost use Rattle.tm_latch.specs.Tickets.{ticket_for};
 ghost use Rattle.tm_latch.specs.Queues.{IsQueue, IsQueueOf, KeepsOthers};
@@ -55,12 +55,15 @@ pub fn take_first<K>(cells: &mut Slab<Waiting<K>>, ends: Ends) -> (u64, K, Optio
     ensures capacity { cells.new.capacity ≡ cells.old.capacity }
 {
     let cell = cells.remove(ends.first);
-    let queue = match cell.next {
-        Some(first) => Some(Ends {
-            first,
-            last: ends.last,
-        }),
+    (cell.number, cell.task, queue_from(cell.next, ends.last))
+}
+
+// The queue from a cell to the last, if there is one.
+fn queue_from(first: Option<usize>, last: usize) -> Option<Ends>
+    ensures { result ≡ option_map (λ key. record { first = key; last = last }) first }
+{
+    match first {
+        Some(key) => Some(Ends { first: key, last }),
         None => None,
-    };
-    (cell.number, cell.task, queue)
+    }
 }
