@@ -61,7 +61,10 @@ impl<K: Drop> Latches<K> {
         ensures count { result ≡ length self.now.tickets }
         ensures most { result ≤ self.now.room }
     {
-        (self.lines.len() + self.cells.len()) as u32
+        let most = self.room;
+        let known = (self.lines.len() + self.cells.len()) as u32;
+        prove!(known <= most);
+        known
     }
 
     /// The ticket that runs on an object, if one does.
