@@ -1,0 +1,5 @@
+pub mod Pairs
+pub mod Place
+pub mod Chains
+pub mod Listed
+pub mod Latched

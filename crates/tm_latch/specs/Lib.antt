@@ -1,0 +1,4 @@
+pub mod Lines
+pub mod Tickets
+pub mod Queues
+pub mod Sound

@@ -1,0 +1,25 @@
+-- How the lines and the queues stand for the tickets.
+use Rattle.std.specs.Prelude.{◌≡◌, ℕ, ◌+◌, ◌≤◌, List, [], ◌∷◌, length, Option, Some, None}
+use Rattle.slab.specs.Slab.{Slab, slab_len}
+use Rattle.tm_latch.specs.declared.lines.Line.{Line}
+use Rattle.tm_latch.specs.declared.queues.Waiting.{Waiting}
+use Rattle.tm_latch.specs.declared.ticket.Ticket.{Ticket}
+use Rattle.tm_latch.specs.Tickets.{tickets_of}
+use Rattle.tm_latch.specs.Lines.{Lines, get, IsStrictlySorted}
+use Rattle.tm_latch.specs.Queues.{IsQueue}
+
+module _ {K : Type 0} where
+  -- an object has no line where it has no tickets; else the first is in its line, and the others in its queue
+  unfoldable pub IsLine : Slab (Waiting K) → Option Line → List (Ticket K) → Type 0
+  IsLine cells None tickets = tickets ≡ []
+  IsLine cells (Some line) tickets =
+      (t : Ticket K) × (rest : List (Ticket K)) × (tickets ≡ t ∷ rest) × (line.ticket ≡ t.number) × IsQueue cells line.queue rest
+
+  -- lines and cells stand for these tickets, each in one of them, and there is room for all that may be
+  pub record IsSound (lines : Lines) (capacity : ℕ) (cells : Slab (Waiting K)) (tickets : List (Ticket K)) (room : ℕ) : Type 0 where
+    pub sorted : IsStrictlySorted lines
+    pub each : (id : ℕ) → IsLine cells (get lines id) (tickets_of id tickets)
+    pub count : length lines + slab_len cells ≡ length tickets
+    pub most : length tickets ≤ room
+    pub lines_fit : room ≤ capacity
+    pub cells_fit : room ≤ cells.capacity
