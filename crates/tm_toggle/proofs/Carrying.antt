@@ -1,7 +1,6 @@
 -- A side of one handle is a side of each handle of the same table.
-use Rattle.std.proofs.Common.{◌≡◌, ℕ, ◌<◌, refl, sym, ◌∙◌, ap, subst}
+use Rattle.std.proofs.Common.{◌≡◌, ◌<◌, sym, ◌∙◌, ap, subst}
 use Rattle.tm_seq.specs.Kind.{Kind}
-use Rattle.tm_model.specs.State.{State}
 use Rattle.tm_pair.specs.Sides.{IsGoodClient, IsGoodTrustee}
 use Rattle.tm_toggle.specs.Ruled.{opening_by}
 use Rattle.tm_toggle.specs.Shared.{opening_at, id_of, client_at, trustee_at, IsSized, IsClientOf, IsTrusteeOf, IsSame}

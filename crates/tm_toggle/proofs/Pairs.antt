@@ -1,5 +1,5 @@
 -- The two sides that a table of two places begins with.
-use Rattle.std.proofs.Common.{◌≡◌, ℕ, ◌+◌, ◌<◌, List, [], ◌∷◌, ◌++◌, length, slice_index_or, refl, sym, ◌∙◌, ap, subst, arith, length-append}
+use Rattle.std.proofs.Common.{◌≡◌, ℕ, ◌<◌, List, [], ◌∷◌, ◌++◌, length, slice_index_or, ◌∙◌, ap, arith, length-append}
 use Rattle.tm_seq.specs.Counting.{counter_kind}
 use Rattle.tm_seq.specs.declared.counter.Counter.{Counter}
 use Rattle.tm_seq.specs.declared.counter.CounterOp.{CounterOp}

@@ -1,4 +1,4 @@
-use Rattle.std.proofs.Common.{rules, ◌≡◌, ◌<◌, ℕ, [], ◌∷◌, slice_index_or, length, refl, sym, ◌∙◌, ap, subst, arith}
+use Rattle.std.proofs.Common.{◌≡◌, ◌<◌, slice_index_or, length, refl, sym, subst, arith}
 use Rattle.tm_toggle.proofs.Pairs.{pair_of, first_side}
 use Rattle.tm_toggle.proofs.tests.two.Goals as goal
 
