@@ -37,6 +37,41 @@ pub(crate) fn get_row(alloc: Global, with_cas: bool, tokens: &[&[u8]]) -> Result
     }
 }
 
+fn get_touch(
+    alloc: Global,
+    with_cas: bool,
+    exptime: Option<i64>,
+    tokens: &[&[u8]],
+) -> Result<Saying, AllocError>
+    ensures { IfOk result (λ s. s ≡ spec.get_touch with_cas exptime (map (λ t. t.now) tokens.now)) }
+{
+    let Some(exptime) = exptime else {
+        return Ok(bad());
+    };
+    match keys_of(alloc, tokens)? {
+        Some(keys) => Ok(asks(Command::GetTouch {
+            exptime,
+            keys,
+            with_cas,
+        })),
+        None => Ok(bad()),
+    }
+}
+
+/// `gat` and `gats`: exptime, and 1 to [`MOST_KEYS`] keys.
+pub(crate) fn get_touch_row(
+    alloc: Global,
+    with_cas: bool,
+    tokens: &[&[u8]],
+) -> Result<Saying, AllocError>
+    ensures { IfOk result (λ s. s ≡ spec.get_touch_row with_cas (map (λ t. t.now) tokens.now)) }
+{
+    match tokens {
+        [seconds, keys @ ..] => get_touch(alloc, with_cas, exptime(seconds), keys),
+        [] => Ok(bad()),
+    }
+}
+
 // What stands behind a `0`, if there is one.
 fn without_zero<'a, 'b>(end: &'a [&'b [u8]]) -> &'a [&'b [u8]]
     ensures { map (λ t. t.now) result.now ≡ spec.without_zero (map (λ t. t.now) end.now) }

@@ -3,7 +3,7 @@ ghost use Rattle.std.specs.Prelude.{◌≡◌, map, IfOk};
 ghost use Rattle.mc_model.specs.Commands as spec;
 ghost use Rattle.mc_model.specs.Line.{says};
 
-use crate::keyed::{change_row, delete_row, get_row, touch_row};
+use crate::keyed::{change_row, delete_row, get_row, get_touch_row, touch_row};
 use crate::other::{flush_row, plain_row, verbosity_row};
 use crate::saying::fails;
 use crate::storage::{cas_row, store_row};
@@ -45,6 +45,10 @@ fn key_row(alloc: Global, name: &[u8], rest: &[&[u8]]) -> Result<Saying, AllocEr
         change_row(alloc, false, rest)
     } else if name == b"touch".as_slice() {
         touch_row(alloc, rest)
+    } else if name == b"gat".as_slice() {
+        get_touch_row(alloc, false, rest)
+    } else if name == b"gats".as_slice() {
+        get_touch_row(alloc, true, rest)
     } else {
         Ok(other_row(name, rest))
     }

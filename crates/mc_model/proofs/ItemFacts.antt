@@ -104,9 +104,9 @@ of_classes-first_of test zero (e ∷ items) = (elim (test (class_of e.0)) as (λ
 of_classes-first_of test (suc bound) (e ∷ items) = (elim (test (class_of e.0)) as (λ b. test (class_of e.0) ≡ b →
     cond b (e ∷ of_classes test (cond b (first_of test bound items) (first_of test (suc bound) items))) (of_classes test (cond b (first_of test bound items) (first_of test (suc bound) items)))
     ≡ take (suc bound) (cond b (e ∷ of_classes test items) (of_classes test items))) [
-  | true ↦ λ h. ap (λ l. e ∷ l) (of_classes-first_of test bound items)
-  | false ↦ λ h. of_classes-first_of test (suc bound) items
-]) refl
+      | true ↦ λ h. ap (λ l. e ∷ l) (of_classes-first_of test bound items)
+      | false ↦ λ h. of_classes-first_of test (suc bound) items
+    ]) refl
 
 -- the items of other classes stay
 pub of_classes-first_of_other : (test other : ℕ → Bool) (bound : ℕ) (items : Items) → ((class : ℕ) → other class ≡ true → test class ≡ false) → of_classes other (first_of test bound items) ≡ of_classes other items
@@ -123,9 +123,9 @@ of_classes-first_of_other test other zero (e ∷ items) h = (elim (other (class_
 of_classes-first_of_other test other (suc bound) (e ∷ items) h = (elim (other (class_of e.0)) as (λ b. other (class_of e.0) ≡ b →
     cond b (e ∷ of_classes other (cond (test (class_of e.0)) (first_of test bound items) (first_of test (suc bound) items))) (of_classes other (cond (test (class_of e.0)) (first_of test bound items) (first_of test (suc bound) items)))
     ≡ cond b (e ∷ of_classes other items) (of_classes other items)) [
-  | true ↦ λ in_it. rw (h (class_of e.0) in_it) (ap (λ l. e ∷ l) (of_classes-first_of_other test other (suc bound) items h))
-  | false ↦ λ out_of_it. (elim (test (class_of e.0)) as (λ b. of_classes other (cond b (first_of test bound items) (first_of test (suc bound) items)) ≡ of_classes other items) [
-    | true ↦ of_classes-first_of_other test other bound items h
-    | false ↦ of_classes-first_of_other test other (suc bound) items h
-  ])
-]) refl
+      | true ↦ λ in_it. rw (h (class_of e.0) in_it) (ap (λ l. e ∷ l) (of_classes-first_of_other test other (suc bound) items h))
+      | false ↦ λ out_of_it. (elim (test (class_of e.0)) as (λ b. of_classes other (cond b (first_of test bound items) (first_of test (suc bound) items)) ≡ of_classes other items) [
+        | true ↦ of_classes-first_of_other test other bound items h
+        | false ↦ of_classes-first_of_other test other (suc bound) items h
+      ])
+    ]) refl

@@ -76,6 +76,16 @@ are_keys keys = nat_le 1 (length keys) && nat_le (length keys) MOST_KEYS && list
 abbrev pub get_row : Bool → List (List ℕ) → Saying
 get_row with_cas keys = if are_keys keys then asks (command.Get keys with_cas) else bad
 
+-- ---- `gat` `gats`: exptime, and 1 to 1,024 keys
+
+abbrev pub get_touch : Bool → Option ℤ → List (List ℕ) → Saying
+get_touch with_cas (Some exptime) keys = if are_keys keys then asks (command.GetTouch exptime keys with_cas) else bad
+get_touch with_cas None keys = bad
+
+abbrev pub get_touch_row : Bool → List (List ℕ) → Saying
+get_touch_row with_cas (exptime ∷ keys) = get_touch with_cas (exptime_of exptime) keys
+get_touch_row with_cas [] = bad
+
 -- ---- `delete`: key [`0`] [`noreply`]
 
 abbrev pub without_zero : List (List ℕ) → List (List ℕ)
@@ -163,6 +173,8 @@ key_row name rest =
     else if bytes_eq name (codes "incr") then change_row true rest
     else if bytes_eq name (codes "decr") then change_row false rest
     else if bytes_eq name (codes "touch") then touch_row rest
+    else if bytes_eq name (codes "gat") then get_touch_row false rest
+    else if bytes_eq name (codes "gats") then get_touch_row true rest
     else other_row name rest
 
 -- the row of a name, compared byte by byte

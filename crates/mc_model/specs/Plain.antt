@@ -8,7 +8,7 @@ use Rattle.mc_model.specs.declared.reply.ShardReply.{ShardReply}
 use Rattle.mc_model.specs.declared.reply.ShardReply.TheVariants.{Flushed, Counts, NoMemory}
 use Rattle.mc_model.specs.Moments.{latest}
 use Rattle.mc_model.specs.Items.{Items, no_items, item_at, count_of, live, of_classes, first_of}
-use Rattle.mc_model.specs.Rows.{KeyOp, Store, Get, Change, Touch, Delete, Outcome, changes_after, outcome_of}
+use Rattle.mc_model.specs.Rows.{KeyOp, Store, Get, GetTouch, Change, Touch, Delete, Outcome, changes_after, outcome_of}
 use Rattle.mc_model.specs.Class.{is_flush_due, stored_after, after_effect, flush_moment}
 
 -- the items of all keys, and for each class its number of changes and the flush that waits
@@ -89,6 +89,7 @@ Part = List ℕ × KeyOp
 abbrev pub parts_of : Command → List Part
 parts_of (command.Store how key flags exptime value quiet) = (key, Store how flags exptime value) ∷ []
 parts_of (command.Get keys with_cas) = map (λ key. (key, Get)) keys
+parts_of (command.GetTouch exptime keys with_cas) = map (λ key. (key, GetTouch exptime)) keys
 parts_of (command.Delete key quiet) = (key, Delete) ∷ []
 parts_of (command.Change up key by quiet) = (key, Change up by) ∷ []
 parts_of (command.Touch key exptime quiet) = (key, Touch exptime) ∷ []

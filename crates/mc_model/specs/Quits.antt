@@ -9,6 +9,7 @@ use Rattle.mc_model.specs.declared.message.Message.TheVariants as message
 abbrev pub is_quit_command : Command → Bool
 is_quit_command (command.Store how key flags exptime value quiet) = false
 is_quit_command (command.Get keys with_cas) = false
+is_quit_command (command.GetTouch exptime keys with_cas) = false
 is_quit_command (command.Delete key quiet) = false
 is_quit_command (command.Change up key by quiet) = false
 is_quit_command (command.Touch key exptime quiet) = false

@@ -86,6 +86,7 @@ only_reply shows _ = Line said.Error
 abbrev pub replies_show : Command → List ShardReply → Shown
 replies_show (command.Store how key flags exptime value quiet) replies = only_reply (λ r. Line (store_says how r)) replies
 replies_show (command.Get keys with_cas) replies = get_shows keys with_cas replies
+replies_show (command.GetTouch exptime keys with_cas) replies = get_shows keys with_cas replies
 replies_show (command.Delete key quiet) replies = only_reply (λ r. Line (delete_says r)) replies
 replies_show (command.Change up key by quiet) replies = only_reply change_shows replies
 replies_show (command.Touch key exptime quiet) replies = only_reply (λ r. Line (touch_says r)) replies
@@ -99,6 +100,7 @@ replies_show command.Quit replies = Nothing
 abbrev pub is_quiet : Command → Bool
 is_quiet (command.Store how key flags exptime value quiet) = quiet
 is_quiet (command.Get keys with_cas) = false
+is_quiet (command.GetTouch exptime keys with_cas) = false
 is_quiet (command.Delete key quiet) = quiet
 is_quiet (command.Change up key by quiet) = quiet
 is_quiet (command.Touch key exptime quiet) = quiet

@@ -30,6 +30,12 @@ pub enum Command {
         keys: Keys,
         with_cas: bool,
     },
+    /// `gat`, or `gats` where `with_cas`: a get of items that go at another time then.
+    GetTouch {
+        exptime: i64,
+        keys: Keys,
+        with_cas: bool,
+    },
     Delete {
         key: Key,
         quiet: bool,

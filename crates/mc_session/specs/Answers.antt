@@ -1,13 +1,15 @@
 -- What a command is answered.
-use Rattle.std.specs.Prelude.{◌≡◌, ℕ, ◌⊎◌, Bool, if◌then◌else◌, List, [], ◌∷◌, ◌++◌}
+use Rattle.std.specs.Prelude.{◌≡◌, ℕ, ℤ, ◌⊎◌, Bool, if◌then◌else◌, List, [], ◌∷◌, ◌++◌, Option, Some, None}
 use Rattle.mc_model.specs.declared.message.Command.{Command}
-use Rattle.mc_model.specs.declared.message.Command.TheVariants.{Get}
+use Rattle.mc_model.specs.declared.message.Command.TheVariants.{Get, GetTouch}
 use Rattle.mc_model.specs.declared.reply.ShardReply.{ShardReply}
 use Rattle.mc_model.specs.declared.reply.ShardReply.TheVariants.{Item}
 use Rattle.mc_model.specs.declared.shown.Said.TheVariants.{NoMemory}
 use Rattle.mc_model.specs.declared.shown.Shown.{Shown}
 use Rattle.mc_model.specs.declared.shown.Shown.TheVariants.{Nothing, Line}
 use Rattle.mc_model.specs.declared.shown.ShownItem.{ShownItem}
+use Rattle.mc_model.specs.Rows.{KeyOp}
+use Rattle.mc_model.specs.Rows as rows
 use Rattle.mc_model.specs.Class.{Class}
 use Rattle.mc_model.specs.Showing.{is_no_memory, shown_of}
 use Rattle.mc_laws.specs.Replies.{ClassesReply}
@@ -22,13 +24,23 @@ pub record IsAnswer (classes : List Class) (command : Command) (moment : ℕ) (n
   pub reply : ClassesReply classes command moment new replies
   pub shows : shown ≡ shown_of command replies
 
--- the command itself, or of a `get` the same for the first of its keys
+-- what is asked of each key of a `get`, or of a `gat` with this exptime
+abbrev pub asked_of : Option ℤ → KeyOp
+asked_of None = rows.Get
+asked_of (Some exptime) = rows.GetTouch exptime
+
+-- a `get`, or a `gat` with this exptime
+abbrev pub retrieval : Option ℤ → List (List ℕ) → Bool → Command
+retrieval None keys with_cas = Get keys with_cas
+retrieval (Some exptime) keys with_cas = GetTouch exptime keys with_cas
+
+-- the command itself, or of a `get` or `gat` the same for the first of its keys
 abbrev pub IsFrontOf : Command → Command → Type 0
 IsFrontOf front command =
     (front ≡ command)
-    ⊎ ((keys : List (List ℕ)) × (others : List (List ℕ)) × (with_cas : Bool) × (front ≡ Get keys with_cas) × (command ≡ Get (keys ++ others) with_cas))
+    ⊎ ((exptime : Option ℤ) × (keys : List (List ℕ)) × (others : List (List ℕ)) × (with_cas : Bool) × (front ≡ retrieval exptime keys with_cas) × (command ≡ retrieval exptime (keys ++ others) with_cas))
 
--- the classes replied to a command, or to a `get` of the first of its keys, and no further
+-- the classes replied to a command, or to a `get` or `gat` of the first of its keys, and no further
 pub record IsBegun (classes : List Class) (command : Command) (moment : ℕ) (new : List Class) : Type 0 where
   pub begun : Command
   pub is_front : IsFrontOf begun command

@@ -35,7 +35,14 @@ impl Asking {
                 let reply = self.store(how, key, flags, exptime, value, moment, gate);
                 Ok(store_shown(how, quiet, reply))
             }
-            Command::Get { keys, with_cas } => self.get_all(alloc, keys, with_cas, moment, gate),
+            Command::Get { keys, with_cas } => {
+                self.get_all(alloc, None, keys, with_cas, moment, gate)
+            }
+            Command::GetTouch {
+                exptime,
+                keys,
+                with_cas,
+            } => self.get_all(alloc, Some(exptime), keys, with_cas, moment, gate),
             Command::Delete { key, quiet } => {
                 Ok(delete_shown(quiet, self.delete(key, moment, gate)))
             }

@@ -1,8 +1,7 @@
-//! `get`: the items of some keys.
+//! `get` and `gat`: the items of some keys.
 ghost use Rattle.std.specs.Prelude.{◌≡◌, ◌++◌, ◌||◌, false, IfOk, OnOk, OnErr};
-ghost use Rattle.mc_model.specs.declared.message.Command.TheVariants as command;
 ghost use Rattle.mc_model.specs.Showing.{is_no_memory};
-ghost use Rattle.mc_session.specs.Answers.{IsAnswer, IsBegun, found_of};
+ghost use Rattle.mc_session.specs.Answers.{IsAnswer, IsBegun, found_of, retrieval};
 
 use crate::asking::Asking;
 use mc_item::Key;
@@ -43,18 +42,19 @@ impl Found {
 }
 
 impl Asking {
-    /// Asks for the items of the keys, one after another. A key without an item is not shown. Where memory was wanting
+    /// Asks for the items of the keys, one after another, which go at another moment where there is an exptime. A key without an item is not shown. Where memory was wanting
     /// for one of them, that alone is shown. An `Err`, for want of memory, has asked for the first of the keys.
     pub(crate) fn get_all<G: Gate>(
         &mut self,
         alloc: Global,
+        exptime: Option<i64>,
         keys: Keys,
         with_cas: bool,
         moment: u64,
         gate: &G,
     ) -> Result<Shown, AllocError>
-        ensures ok { IfOk result (λ shown. IsAnswer self.old (command.Get keys with_cas) moment self.new shown) }
-        ensures err { OnErr result (IsBegun self.old (command.Get keys with_cas) moment self.new) }
+        ensures ok { IfOk result (λ shown. IsAnswer self.old (retrieval exptime keys with_cas) moment self.new shown) }
+        ensures err { OnErr result (IsBegun self.old (retrieval exptime keys with_cas) moment self.new) }
     {
         let mut found = Found {
             items: ShownItems::new(alloc),
@@ -62,7 +62,7 @@ impl Asking {
         };
         for key in keys.into_vec() {
             let asked = key.clone()?;
-            let reply = self.get(asked, moment, gate);
+            let reply = self.retrieve(asked, exptime, moment, gate);
             found.add(key, reply)?;
         }
         let Found {

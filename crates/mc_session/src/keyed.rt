@@ -1,6 +1,7 @@
 //! The operations on one key, each asked at the key's class.
-ghost use Rattle.mc_model.specs.Rows.{Store, Get, Change, Touch, Delete};
+ghost use Rattle.mc_model.specs.Rows.{Store, Get, GetTouch, Change, Touch, Delete};
 ghost use Rattle.mc_laws.specs.Replies.{IsClassPart};
+ghost use Rattle.mc_session.specs.Answers.{asked_of};
 
 use crate::asking::Asking;
 use mc_item::{Bytes, Key, class_of};
@@ -40,6 +41,41 @@ impl Asking {
     {
         let class = class_of(&key);
         self.ask(class, ShardOp::Get { key, moment }, gate)
+    }
+
+    /// Asks for the item of a key, which goes at another moment.
+    pub(crate) fn get_touch<G: Gate>(
+        &mut self,
+        key: Key,
+        exptime: i64,
+        moment: u64,
+        gate: &G,
+    ) -> ShardReply
+        ensures { IsClassPart self.old (key, GetTouch exptime) moment self.new result }
+    {
+        let class = class_of(&key);
+        let op = ShardOp::GetTouch {
+            key,
+            exptime,
+            moment,
+        };
+        self.ask(class, op, gate)
+    }
+
+    /// Asks for the item of a key, which goes at another moment where there is an exptime.
+    pub(crate) fn retrieve<G: Gate>(
+        &mut self,
+        key: Key,
+        exptime: Option<i64>,
+        moment: u64,
+        gate: &G,
+    ) -> ShardReply
+        ensures { IsClassPart self.old (key, asked_of exptime) moment self.new result }
+    {
+        match exptime {
+            None => self.get(key, moment, gate),
+            Some(exptime) => self.get_touch(key, exptime, moment, gate),
+        }
     }
 
     /// Asks for an `incr` where `up`, else for a `decr`.
