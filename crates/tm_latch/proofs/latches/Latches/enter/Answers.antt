@@ -1,5 +1,4 @@
-use Rattle.std.proofs.Common.{◌≡◌, ◌∙◌, ◌<◌, length, Some, None, IsSome, sym, ap, arith}
-use Rattle.tm_latch.specs.Tickets.{Known, first_of}
+use Rattle.std.proofs.Common.{◌∙◌, ◌<◌, length, sym}
 use Rattle.tm_latch.proofs.Latched.{sound_begin, sound_wait, queue_of_line, not_none, none_not}
 use Rattle.tm_latch.proofs.latches.Latches.enter.Goals as goal
 
