@@ -1,5 +1,5 @@
 -- Lemmas on queues as chains of cells.
-use Rattle.std.proofs.Common.{◌≡◌, ◌≢◌, ℕ, suc, ◌+◌, ◌≤◌, List, [], ◌∷◌, ◌++◌, length, Option, Some, None, refl, sym, ap, ◌∙◌, arith}
+use Rattle.std.proofs.Common.{◌≡◌, ◌≢◌, ℕ, suc, ◌≤◌, List, [], ◌∷◌, ◌++◌, length, Option, Some, None, refl, sym, ap, ◌∙◌, arith}
 use Rattle.std.specs.Prelude.{option_map}
 use Rattle.slab.specs.Slab.{Slab, get, Updates, ContainsKey, with_value}
 use Rattle.tm_latch.specs.declared.lines.Ends.{Ends}
@@ -121,11 +121,17 @@ module _ {K : Type 0} where
     follows_without : (vs : List (Ticket K)) → length vs ≤ length rest → (k : ℕ) (next : Option ℕ) → Follows old k next vs last → Follows new k next vs last
     unfolding Follows
     follows_without [] short k next f = f
-    follows_without (v ∷ vs) short k next (after, further, is, there, f) = (after, further, is, same after (λ back.
-        let one : cell_of v further ≡ cell_of t more = some_same _ _ (sym there ∙ (ap (λ (i : ℕ). get old i) back ∙ head)) in
-        let ahead : further ≡ more = ap (λ (c : Waiting K). c.next) one in
-        let long = same_length old vs rest first more last last (rw (← back, ← ahead) f) whole in
-        omega (arith, long, short)) ∙ there, follows_without vs (omega (arith, short)) after further f)
+    follows_without (v ∷ vs) short k next (after, further, is, there, f) = (
+      after,
+      further,
+      is,
+      same after (λ back.
+          let one : cell_of v further ≡ cell_of t more = some_same _ _ (sym there ∙ (ap (λ (i : ℕ). get old i) back ∙ head)) in
+          let ahead : further ≡ more = ap (λ (c : Waiting K). c.next) one in
+          let long = same_length old vs rest first more last last (rw (← back, ← ahead) f) whole in
+          omega (arith, long, short)) ∙ there,
+      follows_without vs (omega (arith, short)) after further f,
+    )
 
     pub rest_stays : Follows new first more rest last
     rest_stays = follows_without rest (omega arith) first more whole
@@ -155,8 +161,8 @@ module _ {K : Type 0} (id : ℕ) (old : Slab (Waiting K)) where
   pub others_changed : (new : Slab (Waiting K)) (key : ℕ) (c : Waiting K) (slot : Option (Waiting K)) → get old key ≡ Some c → c.id ≡ id → Updates old new key slot → (other : ℕ) → other ≢ id → SameAt other old new
   others_changed new key c slot here mine updates other differs k d there of =
       updates.others k (λ same.
-          let one : c ≡ d = some_same _ _ (sym here ∙ (ap (λ (i : ℕ). get old i) (sym same) ∙ there)) in
-          absurd (differs (sym of ∙ (ap (λ (x : Waiting K). x.id) (sym one) ∙ mine)))) ∙ there
+      let one : c ≡ d = some_same _ _ (sym here ∙ (ap (λ (i : ℕ). get old i) (sym same) ∙ there)) in
+      absurd (differs (sym of ∙ (ap (λ (x : Waiting K). x.id) (sym one) ∙ mine)))) ∙ there
 
 -- a ticket is put behind a queue: its cell is added, and then the last cell points to it
 module _ {K : Type 0} (id key : ℕ) (t : Ticket K) (old mid : Slab (Waiting K)) (vacant : get old key ≡ None) (added : Updates old mid key (Some (cell_of t None))) where
@@ -181,7 +187,7 @@ module _ {K : Type 0} (id key : ℕ) (t : Ticket K) (old mid : Slab (Waiting K))
         let u = last_cell id old ends queue.0 queue.1 queue.2 in
         let is : cell_of u.0 None ≡ r = some_same _ _ (sym (kept_added ends.last (cell_of u.0 None) u.2) ∙ there) in
         queue_same other old (with_value mid ends.last relinked) (λ k d here of.
-            others_changed id mid (with_value mid ends.last relinked) ends.last r (Some relinked) there (ap (λ (c : Waiting K). c.id) (sym is) ∙ u.1) updates other differs k d (kept_added k d here) of) other_queue tickets are q
+        others_changed id mid (with_value mid ends.last relinked) ends.last r (Some relinked) there (ap (λ (c : Waiting K). c.id) (sym is) ∙ u.1) updates other differs k d (kept_added k d here) of) other_queue tickets are q
 
     pub append_own : (tickets : List (Ticket K)) → IsQueue old (Some ends) tickets → IsQueue (with_value mid ends.last relinked) (Some (record { first = ends.first; last = key })) (tickets ++ t ∷ [])
     append_own tickets q =

@@ -84,7 +84,7 @@ impl<K: Drop> Latches<K> {
         ensures waits { IsSome (first_of id self.old.tickets) → result ≡ Queued }
         ensures entered { self.new ≡ record self.old { tickets = self.old.tickets ++ ticket_for id ticket task ∷ [] } }
     {
-        self.known = after_enter(&self.known, id, ticket, &task);
+        let known = after_enter(&self.known, id, ticket, &task);
         match line_of(&self.lines, id) {
             None => {
                 let line = Line {
@@ -92,6 +92,7 @@ impl<K: Drop> Latches<K> {
                     queue: None,
                 };
                 add_line(&mut self.lines, id, line);
+                self.known = known;
                 Entered::Running(task)
             }
             Some(line) => {
@@ -101,6 +102,7 @@ impl<K: Drop> Latches<K> {
                     queue: Some(ends),
                 };
                 set_line(&mut self.lines, id, line);
+                self.known = known;
                 Entered::Queued
             }
         }

@@ -17,7 +17,13 @@ pub struct Waiting<K> {
 }
 
 /// Lets a ticket wait behind a queue.
-pub fn append<K>(cells: &mut Slab<Waiting<K>>, queue: Option<Ends>, id: u64, number: u64, task: K) -> Ends
+pub fn append<K>(
+    cells: &mut Slab<Waiting<K>>,
+    queue: Option<Ends>,
+    id: u64,
+    number: u64,
+    task: K,
+) -> Ends
     requires room { HasRoomFor cells.old 1 }
     requires queue { IsQueueOf id cells.old queue }
     ensures own { (tickets : _) → IsQueue cells.old queue tickets → IsQueue cells.new (Some result) (tickets ++ ticket_for id number task ∷ []) }

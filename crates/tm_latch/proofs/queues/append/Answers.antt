@@ -11,7 +11,7 @@ pub returns-in-Some-clause-own : goal.returns-in-Some-clause-own
 returns-in-Some-clause-own g c =
     let at = c.insert_reserved-key.ensures in
     rw c.in-Some.is
-        (append_own c.args.id c.insert_reserved-key.result (ticket_for c.args.id c.args.number c.args.task) _ _ at.was_vacant at.updates c.in-Some.ends (rw c.in-Some.is at c.requires.queue) c.index_mut.result.now c.index_mut.ensures.value)
+    (append_own c.args.id c.insert_reserved-key.result (ticket_for c.args.id c.args.number c.args.task) _ _ at.was_vacant at.updates c.in-Some.ends (rw c.in-Some.is at c.requires.queue) c.index_mut.result.now c.index_mut.ensures.value)
 
 pub returns-in-Some-clause-others : goal.returns-in-Some-clause-others
 returns-in-Some-clause-others g c =

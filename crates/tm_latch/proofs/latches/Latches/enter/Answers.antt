@@ -1,5 +1,4 @@
-use Rattle.std.proofs.Common.{◌≡◌, ◌∙◌, ◌<◌, length, Some, None, IsSome, sym, ap, arith}
-use Rattle.tm_latch.specs.Tickets.{Known, first_of}
+use Rattle.std.proofs.Common.{◌∙◌, ◌<◌, length, sym}
 use Rattle.tm_latch.proofs.Latched.{sound_begin, sound_wait, queue_of_line, not_none, none_not}
 use Rattle.tm_latch.proofs.latches.Latches.enter.Goals as goal
 
@@ -8,7 +7,7 @@ pub invariant_of-self : goal.invariant_of-self
 invariant_of-self g c =
     let few : length c.self.inside.known.items < c.self.inside.room = rw (← c.self.view_is) at c.requires in
     let made = c.add_line.ensures in
-    rw (c.after_enter-self-inside.ensures, made.capacity)
+    rw (c.after_enter-known.ensures, made.capacity)
     (sound_begin _ _ _ _ _ c.self.invariant c.args.id _ c.args.ticket c.args.task (sym c.line_of.ensures ∙ c.in-None.is) made.sorted made.sets made.len few)
 
 -- the ticket waits
@@ -20,7 +19,7 @@ invariant_of-self-in-Some g c =
     let few : length c.self.inside.known.items < c.self.inside.room = rw (← c.self.view_is) at c.requires in
     let made = c.set_line.ensures in
     let put = c.append-ends.ensures in
-    rw (c.after_enter-self-inside.ensures, made.capacity)
+    rw (c.after_enter-known.ensures, made.capacity)
     (sound_wait _ _ _ _ _ c.self.invariant c.args.id _ c.append-ends.new.cells c.args.ticket c.args.task c.in-Some.line c.append-ends.result (sym c.line_of.ensures ∙ c.in-Some.is) made.sorted made.sets made.len put.own put.others put.len put.capacity few)
 
 -- each answer comes in its own case alone

@@ -1,5 +1,4 @@
-use Rattle.std.proofs.Common.{◌≡◌, ◌∙◌, Some, None, IsSome, refl, sym, ap}
-use Rattle.tm_latch.specs.Queues.{IsQueueOf}
+use Rattle.std.proofs.Common.{◌∙◌, refl, sym}
 use Rattle.tm_latch.proofs.Latched.{sound_end, sound_next, none_next, some_next, queue_of_line, not_none}
 use Rattle.tm_latch.proofs.latches.Latches.leave.Goals as goal
 
