@@ -1,4 +1,5 @@
 //! Small runs whose answers the rules give.
 
+mod meeting;
 mod slots;
 mod turns;
