@@ -1,12 +1,11 @@
 -- An answer keeps the rule.
-use Rattle.std.proofs.Common.{◌≡◌, ◌≢◌, ℕ, ◌+◌, ◌-◌, ◌<◌, ◌≤◌, ◌==◌, Bool, false, true, not, List, [], ◌∷◌, ◌++◌, length, slice_index_or, slice_set, inl, inr, refl, sym, ◌∙◌, ap, subst, arith, length-set, get_or-set_same, get_or-set_other, ne_eqb}
+use Rattle.std.proofs.Common.{◌≡◌, ◌≢◌, ℕ, ◌+◌, ◌-◌, ◌<◌, ◌==◌, true, not, List, [], ◌∷◌, ◌++◌, length, slice_index_or, slice_set, inl, inr, refl, sym, ◌∙◌, ap, subst, arith, length-set, get_or-set_same, get_or-set_other, ne_eqb}
 use Rattle.std.specs.Prelude.{IsSomeAnd}
 use Rattle.std.specs.declared.option.Option.TheVariants.{Some}
 use Rattle.std.proofs.lemmas.Bool.{cases_eq}
 use mathlib.Core.Option.{some, none}
-use mathlib.Core.Option as maybe
 use lib.ListN.{get_elem?}
-use Rattle.atomic_table.specs.Table.{State as TableState, step, gives, Allows}
+use Rattle.atomic_table.specs.Table.{step, gives, Allows}
 use Rattle.atomic_table.proofs.Lists.{set_here, set_else}
 use Rattle.tm_seq.specs.Kind.{Kind}
 use Rattle.tm_batch.specs.declared.message.Request.{Request}
@@ -24,7 +23,7 @@ use Rattle.tm_model.specs.Entries.{added}
 use Rattle.tm_model.specs.Answering.{MayGrow, answer_with}
 use Rattle.tm_model.specs.Laws.{IsOpening}
 use Rattle.tm_core.proofs.LogTallied.{answer_keeps_good}
-use Rattle.tm_pair.specs.Views.{BatchView, TrusteeView, hand_of}
+use Rattle.tm_pair.specs.Views.{BatchView, hand_of}
 use Rattle.tm_pair.specs.Calls.{HasAnswered}
 use Rattle.tm_pair.specs.Sides.{IsGoodTrustee}
 use Rattle.tm_pair.specs.SideViews.{client_of, trustee_of}
@@ -34,7 +33,7 @@ use Rattle.tm_pair.proofs.Standing.{trustee_good}
 use Rattle.tm_pair.proofs.Calling.{core_next, answer_is, may_be_answered}
 use Rattle.tm_pair.proofs.Stepping as stepping
 use Rattle.tm_toggle.specs.Contents.{answers_in, HasNoRequests}
-use Rattle.tm_toggle.specs.Ruled.{listed, r_of, s_of, bit, opening_in, trustee_in, IsByClient, IsByTrustee, IsNext, IsHome, Course, Knows, Stands, Delegates}
+use Rattle.tm_toggle.specs.Ruled.{listed, r_of, s_of, bit, opening_in, trustee_in, IsByClient, IsByTrustee, IsNext, IsHome, Course, Knows, Delegates}
 use Rattle.tm_toggle.specs.Plays.{Sat, replies, HasReplied, AnswersAt, answers}
 use Rattle.tm_toggle.specs.declared.content.Content.{Content}
 use Rattle.tm_toggle.specs.declared.view.View.{View}

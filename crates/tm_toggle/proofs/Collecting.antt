@@ -1,6 +1,5 @@
 -- A look of a client keeps the rule.
-use Rattle.std.proofs.Common.{◌≡◌, ◌≢◌, ℕ, ◌+◌, ◌<◌, ◌≤◌, ◌==◌, Bool, false, true, List, [], ◌∷◌, ◌++◌, length, slice_index_or, slice_set, inl, inr, refl, sym, ◌∙◌, ap, subst, arith, length-set, get_or-set_same}
-use Rattle.std.specs.declared.option.Option.{Option as RustOption}
+use Rattle.std.proofs.Common.{◌≡◌, ◌≢◌, ℕ, ◌+◌, ◌<◌, ◌==◌, Bool, false, true, List, [], ◌∷◌, ◌++◌, length, slice_index_or, slice_set, inl, inr, refl, sym, ◌∙◌, ap, subst, arith, length-set, get_or-set_same}
 use Rattle.std.specs.declared.option.Option.TheVariants.{None, Some}
 use Rattle.std.proofs.lemmas.Bool.{cases_eq}
 use mathlib.Core.Logic.{dite}
@@ -11,18 +10,17 @@ use lib.ListN.{get_elem?}
 use Rattle.atomic_table.specs.Table.{State as TableState, step, keeps, takes, Allows}
 use Rattle.atomic_table.proofs.Lists.{set_here, set_else}
 use Rattle.tm_seq.specs.Kind.{Kind}
-use Rattle.tm_batch.specs.declared.message.Request.{Request}
 use Rattle.tm_batch.specs.declared.message.AnswerBatch.{AnswerBatch}
 use Rattle.tm_model.specs.State.{State}
 use Rattle.tm_model.specs.declared.entry.Entry.{Entry}
-use Rattle.tm_model.specs.Slots.{Empty, Asked, Taken, Answered, no_slot, slot_of, collect, collected, is_answered, looked, first_core}
+use Rattle.tm_model.specs.Slots.{Empty, Answered, no_slot, slot_of, collect, collected, is_answered, looked, first_core}
 use Rattle.tm_model.specs.Good.{FullBox, FullSlot, FullCore, IsGood}
 use Rattle.tm_model.specs.Laws.{IsOpening}
 use Rattle.tm_core.proofs.Accounts.{collect_keeps_good}
 use Rattle.tm_pair.specs.Views.{BatchView, ClientView}
 use Rattle.tm_pair.specs.Calls.{Collects}
 use Rattle.tm_pair.specs.Sides.{IsGoodClient}
-use Rattle.tm_pair.specs.SideViews.{batch_out, client_of, trustee_of}
+use Rattle.tm_pair.specs.SideViews.{client_of}
 use Rattle.tm_pair.specs.Moves.{core_after, answers_found, FindsAnswered}
 use Rattle.tm_pair.specs.declared.moves.Move.{Move}
 use Rattle.tm_pair.specs.declared.moves.Move.TheVariants.{Collect}
@@ -32,7 +30,7 @@ use Rattle.tm_pair.proofs.Standing.{client_good}
 use Rattle.tm_pair.proofs.Calling.{core_next}
 use Rattle.tm_pair.proofs.Stepping as stepping
 use Rattle.tm_toggle.specs.Contents.{answers_in, HasNoRequests}
-use Rattle.tm_toggle.specs.Ruled.{listed, r_of, s_of, bit, opening_in, client_in, IsByClient, IsByTrustee, IsNext, IsIn, IsHome, HaveCome, Course, Knows, Stands, Delegates}
+use Rattle.tm_toggle.specs.Ruled.{listed, s_of, bit, opening_in, client_in, IsByClient, IsByTrustee, IsNext, IsHome, Course, Knows, Stands, Delegates}
 use Rattle.tm_toggle.specs.Plays.{Sat, asks, HasCollected, collects}
 use Rattle.tm_toggle.specs.declared.content.Content.{Content}
 use Rattle.tm_toggle.specs.declared.view.View.{View}

@@ -1,18 +1,17 @@
 -- Words, lists of calls and lists of views.
-use Rattle.std.proofs.Common.{◌≡◌, ◌≢◌, ℕ, zero, suc, ◌+◌, ◌-◌, ◌*◌, ◌<◌, ◌≤◌, Bool, true, false, true≢false, not, List, [], ◌∷◌, ◌++◌, length, refl, sym, ◌∙◌, ap, subst, arith}
+use Rattle.std.proofs.Common.{◌≡◌, ℕ, zero, suc, ◌-◌, ◌<◌, Bool, true, false, true≢false, not, List, [], ◌∷◌, ◌++◌, length, refl, sym, ◌∙◌, ap, arith}
 use Rattle.std.specs.Prelude.{IsSomeAnd}
 use Rattle.std.specs.List.{AllByRecursion}
 use Rattle.std.specs.declared.option.Option.TheVariants.{None, Some}
 use Rattle.std.specs.declared.option.Option.{Option as RustOption}
 use Rattle.std.proofs.lemmas.List.{append_assoc, append-nil}
-use mathlib.Core.Option.{some, none, some-ne-none}
+use mathlib.Core.Option.{some, some-ne-none}
 use lib.ListN.{get_elem?}
 use Rattle.tm_model.specs.Lists.{IsPrefix}
 use Rattle.tm_model.specs.Good.{FullCore}
 use Rattle.tm_pair.specs.Moves.{MayCome, after_move, after_moves}
 use Rattle.tm_pair.specs.declared.moves.Move.{Move}
-use Rattle.tm_toggle.specs.Ruled.{r_of, s_of, bit, AreOfOthers, HasAll, IsNext, HaveCome}
-use Rattle.tm_toggle.specs.declared.content.Content.{Content}
+use Rattle.tm_toggle.specs.Ruled.{r_of, s_of, bit, HasAll, IsNext, HaveCome}
 
 pub same_r : (a b : ℕ) → r_of a ≡ r_of b → a ≡ b
 same_r a b e = omega arith

@@ -1,5 +1,5 @@
 -- What stays true of a side over a step.
-use Rattle.std.proofs.Common.{inl, inr, get_or-set_same, get_or-set_other, ◌≡◌, ◌≢◌, ℕ, zero, suc, ◌+◌, ◌-◌, ◌<◌, ◌≤◌, Bool, true, false, List, [], ◌∷◌, length, slice_index_or, slice_set, refl, sym, ◌∙◌, ap, subst, arith}
+use Rattle.std.proofs.Common.{inl, inr, get_or-set_same, get_or-set_other, ◌≡◌, ℕ, zero, suc, ◌-◌, ◌<◌, true, false, List, [], ◌∷◌, length, slice_index_or, slice_set, refl, sym, ◌∙◌, ap, subst, arith}
 use Rattle.std.specs.Prelude.{vec_len}
 use Rattle.std.specs.declared.option.Option.TheVariants.{None, Some}
 use Rattle.std.specs.declared.option.Option.{Option as RustOption}
@@ -16,18 +16,17 @@ use Rattle.tm_pair.specs.Views.{BatchView, ClientView, TrusteeView, hand_of}
 use Rattle.tm_pair.specs.Sides.{IsGoodClient, IsGoodTrustee}
 use Rattle.tm_pair.specs.Theory.{KeepsSides, KeepsClients}
 use Rattle.tm_pair.specs.declared.moves.Move.{Move}
-use Rattle.tm_pair.specs.declared.table.Collected.{Collected}
 use Rattle.tm_pair.specs.declared.table.Collected.TheVariants.{Answers, Pending}
-use Rattle.tm_toggle.specs.Contents.{batch_in, answers_in, IsClear}
+use Rattle.tm_toggle.specs.Contents.{batch_in, IsClear}
 use Rattle.tm_toggle.specs.Ruled.{listed, bit, s_of, opening_in, client_in, trustee_in}
-use Rattle.tm_toggle.specs.Plays.{Sat, asks, replies, HasPublished, HasCollected, HasMissed, HasTaken, HasReplied, publishes, AnswersAt, answers}
+use Rattle.tm_toggle.specs.Plays.{Sat, asks, replies, HasPublished, HasCollected, HasTaken, HasReplied, publishes, AnswersAt, answers}
 use Rattle.tm_toggle.specs.Shared.{opening_at, id_of, client_knows, trustee_knows, client_at, trustee_at, IsClientOf, IsTrusteeOf, shared_theory}
 use Rattle.tm_toggle.specs.declared.content.Content.{Content}
 use Rattle.tm_toggle.specs.declared.view.View.{View}
 use Rattle.tm_toggle.specs.declared.sides.SharedClient.{SharedClient}
 use Rattle.tm_toggle.specs.declared.sides.SharedTrustee.{SharedTrustee}
 use Rattle.tm_toggle.specs.declared.shared.SharedTable.{SharedTable}
-use Rattle.tm_toggle.proofs.Facts.{off, flips, same_bit}
+use Rattle.tm_toggle.proofs.Facts.{off, flips}
 
 pub held : {A : Type 0} (l : List (ℕ × A)) (k : ℕ) (y : A) (more : List (ℕ × A)) → l ≡ (k, y) ∷ more → l ≡ (k, y) ∷ rest l
 held {A} l k y more e = e ∙ ap (λ (z : List (ℕ × A)). (k, y) ∷ rest z) (sym e)

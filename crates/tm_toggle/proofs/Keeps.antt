@@ -1,5 +1,5 @@
 -- A step that changes one place of the core keeps the rule.
-use Rattle.std.proofs.Common.{◌≡◌, ◌≢◌, ℕ, ◌+◌, ◌*◌, ◌<◌, ◌≤◌, ◌==◌, Bool, true, false, List, [], ◌∷◌, ◌++◌, length, slice_index_or, slice_set, inl, inr, ⊎_elim, refl, sym, ◌∙◌, ap, subst, arith, length-set}
+use Rattle.std.proofs.Common.{◌≡◌, ◌≢◌, ℕ, ◌+◌, ◌*◌, ◌<◌, ◌≤◌, ◌==◌, Bool, List, length, slice_index_or, slice_set, inl, inr, ⊎_elim, sym, ◌∙◌, ap, subst}
 use Rattle.std.proofs.lemmas.Bool.{cases_eq}
 use mathlib.Core.Option.{some, none}
 use mathlib.Core.Option as maybe
@@ -15,10 +15,10 @@ use Rattle.tm_model.specs.Good.{FullSlot, FullCore, IsGood}
 use Rattle.tm_pair.specs.SideViews.{client_of, trustee_of}
 use Rattle.tm_pair.specs.Moves.{core_after}
 use Rattle.tm_pair.specs.declared.moves.Move.{Move}
-use Rattle.tm_toggle.specs.Ruled.{r_of, s_of, bit, IsByClient, IsByTrustee, AreOfOthers, HasAll, HaveCome, IsHome, Course, IsUntouched, KnowsPlace, KnowsLog, Knows, Stands, Delegates}
+use Rattle.tm_toggle.specs.Ruled.{r_of, s_of, bit, IsByClient, IsByTrustee, AreOfOthers, HasAll, HaveCome, IsHome, Course, IsUntouched, Knows, Stands, Delegates}
 use Rattle.tm_toggle.specs.declared.content.Content.{Content}
 use Rattle.tm_toggle.specs.declared.view.View.{View}
-use Rattle.tm_toggle.proofs.Facts.{off, prefix_on}
+use Rattle.tm_toggle.proofs.Facts.{prefix_on}
 
 module _ {V O R T : Type 0} where
   -- what a step leaves of all clients, and of all places but p

@@ -1,5 +1,5 @@
 -- The sides of a table at first are its sides.
-use Rattle.std.proofs.Common.{◌≡◌, ◌≢◌, ℕ, ◌+◌, ◌<◌, true, false, List, [], ◌∷◌, ◌++◌, length, slice_index_or, replicate, inl, inr, refl, sym, ◌∙◌, ap, subst, arith, length-append}
+use Rattle.std.proofs.Common.{◌≡◌, ℕ, ◌<◌, List, [], ◌∷◌, ◌++◌, length, slice_index_or, replicate, inl, inr, refl, sym, ◌∙◌, ap, subst, arith, length-append}
 use Rattle.std.specs.Prelude.{vec_len}
 use Rattle.std.specs.Arc.{arc_value}
 use Rattle.std.proofs.lemmas.Bool.{cases_eq}
@@ -15,15 +15,14 @@ use Rattle.tm_model.specs.Good.{FullSlot, FullCore}
 use Rattle.tm_model.specs.Laws.{IsOpening}
 use Rattle.tm_core.proofs.First.{first_is_good}
 use Rattle.tm_pair.specs.Sides.{IsGoodClient, IsGoodTrustee}
-use Rattle.tm_pair.specs.SideViews.{client_of, trustee_of}
+use Rattle.tm_pair.specs.SideViews.{client_of}
 use Rattle.tm_pair.specs.Theory.{IsNewClientOf, IsNewTable}
 use Rattle.tm_pair.proofs.Standing.{client_good, trustee_good}
 use Rattle.tm_pair.proofs.Calling.{first_trustee}
 use Rattle.tm_toggle.specs.Ruled.{bit, opening_in, opening_by, client_in, trustee_in}
 use Rattle.tm_toggle.specs.Plays.{Sat, asks, replies}
-use Rattle.tm_toggle.specs.Shared.{opening_at, id_of, client_at, trustee_at, IsSized, IsClientOf, IsTrusteeOf, shared_theory}
+use Rattle.tm_toggle.specs.Shared.{opening_at, id_of, client_at, trustee_at, IsSized, IsTrusteeOf, shared_theory}
 use Rattle.tm_toggle.specs.Opened.{maker, IsFirstSide, AreFirstSides}
-use Rattle.tm_toggle.specs.declared.content.Content.{Content}
 use Rattle.tm_toggle.specs.declared.sides.Key.{Key}
 use Rattle.tm_toggle.specs.declared.sides.SharedClient.{SharedClient}
 use Rattle.tm_toggle.specs.declared.sides.SharedTrustee.{SharedTrustee}

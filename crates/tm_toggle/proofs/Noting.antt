@@ -1,5 +1,5 @@
 -- A note of what a seat has seen, and what it tells the seat that takes it in.
-use Rattle.std.proofs.Common.{◌≡◌, ◌≢◌, ℕ, ◌+◌, ◌<◌, ◌≤◌, true, false, List, [], ◌∷◌, ◌++◌, length, slice_index_or, slice_set, ⊎_elim, refl, sym, ◌∙◌, ap, subst, arith, ◌⊎◌}
+use Rattle.std.proofs.Common.{◌≡◌, ◌≢◌, ℕ, ◌<◌, true, false, List, [], ◌∷◌, ◌++◌, length, slice_index_or, slice_set, ⊎_elim, refl, sym, ◌∙◌, ap, subst, arith}
 use mathlib.Core.Option.{some, none}
 use lib.ListN.{get_elem?}
 use lib.Seq.{set-get_or}
@@ -11,12 +11,10 @@ use Rattle.tm_model.specs.State.{State}
 use Rattle.tm_model.specs.Lists.{IsPrefix}
 use Rattle.tm_model.specs.Slots.{slot_of}
 use Rattle.tm_model.specs.Good.{FullCore}
-use Rattle.tm_model.specs.Ran.{ran}
 use Rattle.tm_core.proofs.Agreeing.{fronts_agree}
 use Rattle.tm_pair.specs.Views.{ClientView, TrusteeView}
-use Rattle.tm_pair.specs.SideViews.{client_of, trustee_of}
 use Rattle.tm_pair.specs.Moves.{core_after}
-use Rattle.tm_toggle.specs.Ruled.{client_in, trustee_in, Course, KnowsPlace, KnowsLog, Knows, Stands, Delegates}
+use Rattle.tm_toggle.specs.Ruled.{client_in, trustee_in, Course, Knows, Stands, Delegates}
 use Rattle.tm_toggle.specs.Plays.{Sat, note_of, noted, spent, Compares, compares, follows}
 use Rattle.tm_toggle.specs.declared.content.Content.{Content}
 use Rattle.tm_toggle.specs.declared.view.View.{View}

@@ -18,7 +18,7 @@ use Rattle.tm_core.proofs.Accounts.{publish_keeps_good}
 use Rattle.tm_pair.specs.Views.{ClientView}
 use Rattle.tm_pair.specs.Calls.{Publishes}
 use Rattle.tm_pair.specs.Sides.{IsGoodClient}
-use Rattle.tm_pair.specs.SideViews.{client_of, trustee_of}
+use Rattle.tm_pair.specs.SideViews.{client_of}
 use Rattle.tm_pair.specs.Moves.{core_after}
 use Rattle.tm_pair.specs.declared.moves.Move.{Move}
 use Rattle.tm_pair.specs.declared.moves.Move.TheVariants.{Publish}

@@ -1,5 +1,5 @@
 -- The trustee lays the slot of a batch in hand back, and lifts it again.
-use Rattle.std.proofs.Common.{◌≡◌, ◌≢◌, ℕ, ◌+◌, ◌<◌, ◌≤◌, ◌==◌, Bool, false, true, List, [], ◌∷◌, length, slice_set, refl, sym, ◌∙◌, ap, subst, arith, length-set, eq-eqb, ne_eqb}
+use Rattle.std.proofs.Common.{◌≡◌, ◌≢◌, ℕ, ◌+◌, ◌<◌, ◌==◌, Bool, false, true, List, [], ◌∷◌, length, slice_set, refl, sym, ◌∙◌, ap, subst, arith, length-set, eq-eqb, ne_eqb}
 use Rattle.std.specs.declared.option.Option.TheVariants.{Some}
 use mathlib.Core.Option.{some, none}
 use mathlib.Core.Option as maybe
@@ -15,7 +15,7 @@ use Rattle.tm_pair.specs.Views.{BatchView, TrusteeView, hand_of}
 use Rattle.tm_pair.specs.Moves.{core_after}
 use Rattle.tm_pair.proofs.Standing.{is_in_hand, hand_at}
 use Rattle.tm_toggle.specs.Contents.{IsClear}
-use Rattle.tm_toggle.specs.Ruled.{s_of, opening_in, trustee_in, IsHome, Course, Stands, Delegates}
+use Rattle.tm_toggle.specs.Ruled.{s_of, trustee_in, IsHome, Course, Stands, Delegates}
 use Rattle.tm_toggle.specs.Plays.{Sat, lays, lifts}
 use Rattle.tm_toggle.specs.declared.content.Content.{Content}
 use Rattle.tm_toggle.specs.declared.view.View.{View}

@@ -1,6 +1,5 @@
 -- A look of the trustee keeps the rule.
-use Rattle.std.proofs.Common.{◌≡◌, ◌≢◌, ℕ, ◌+◌, ◌<◌, ◌≤◌, ◌==◌, Bool, false, true, cond, List, [], ◌∷◌, ◌++◌, length, slice_index_or, slice_set, inl, inr, refl, sym, ◌∙◌, ap, subst, arith, length-set, get_or-set_same, eq-eqb, ne_eqb}
-use Rattle.std.specs.Prelude.{MatchOption}
+use Rattle.std.proofs.Common.{◌≡◌, ◌≢◌, ℕ, ◌+◌, ◌<◌, ◌==◌, Bool, false, true, List, [], ◌∷◌, ◌++◌, length, slice_index_or, slice_set, inl, inr, refl, sym, ◌∙◌, ap, subst, arith, length-set, get_or-set_same, eq-eqb, ne_eqb}
 use Rattle.std.specs.declared.option.Option.{Option as RustOption}
 use Rattle.std.specs.declared.option.Option.TheVariants.{None, Some}
 use Rattle.std.proofs.lemmas.Bool.{cases_eq}
@@ -20,7 +19,7 @@ use Rattle.tm_model.specs.Good.{FullBox, FullSlot, FullCore, IsGood}
 use Rattle.tm_model.specs.Laws.{IsOpening}
 use Rattle.tm_core.proofs.Accounts.{see_keeps_good}
 use Rattle.tm_core.proofs.Promised.{batches_are_promised}
-use Rattle.tm_pair.specs.Views.{BatchView, TrusteeView, hand_of}
+use Rattle.tm_pair.specs.Views.{TrusteeView, hand_of}
 use Rattle.tm_pair.specs.Calls.{SeesNothing, Takes}
 use Rattle.tm_pair.specs.Sides.{IsGoodTrustee}
 use Rattle.tm_pair.specs.SideViews.{hand_in, client_of, trustee_of}
@@ -31,7 +30,7 @@ use Rattle.tm_pair.proofs.Standing.{trustee_good, hand_at}
 use Rattle.tm_pair.proofs.Calling.{core_next}
 use Rattle.tm_pair.proofs.Stepping as stepping
 use Rattle.tm_toggle.specs.Contents.{batch_in, HasNoAnswers}
-use Rattle.tm_toggle.specs.Ruled.{listed, r_of, s_of, bit, opening_in, trustee_in, IsByClient, IsByTrustee, IsNext, IsHome, Course, Knows, Stands, Delegates}
+use Rattle.tm_toggle.specs.Ruled.{listed, r_of, bit, opening_in, trustee_in, IsByClient, IsByTrustee, IsNext, IsHome, Course, Knows, Stands, Delegates}
 use Rattle.tm_toggle.specs.Plays.{Sat, replies, HasMissed, HasTaken, SeesAt, sees}
 use Rattle.tm_toggle.specs.declared.content.Content.{Content}
 use Rattle.tm_toggle.specs.declared.view.View.{View}

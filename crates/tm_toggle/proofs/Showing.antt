@@ -1,5 +1,5 @@
 -- A state that the rule allows shows one good core.
-use Rattle.std.proofs.Common.{◌≡◌, ℕ, ◌+◌, ◌<◌, ◌==◌, Bool, true, false, List, length, refl, sym, ◌∙◌, ap, subst}
+use Rattle.std.proofs.Common.{◌≡◌, ℕ, ◌+◌, ◌==◌, Bool, true, false, List, refl, sym, ◌∙◌, ap}
 use mathlib.Core.Option.{some}
 use mathlib.Core.Option as maybe
 use lib.ListN.{get_elem?}
@@ -10,7 +10,7 @@ use Rattle.tm_model.specs.Slots.{Empty, Asked, Taken, Answered, slot_of}
 use Rattle.tm_model.specs.Good.{FullBox}
 use Rattle.tm_pair.specs.Moves.{core_after}
 use Rattle.tm_toggle.specs.Ruled.{IsHome, Course, Stands, Delegates}
-use Rattle.tm_toggle.specs.OneCore.{StandsIn, ShowsCalls, ShowsOneCore}
+use Rattle.tm_toggle.specs.OneCore.{StandsIn, ShowsOneCore}
 use Rattle.tm_toggle.specs.declared.content.Content.{Content}
 use Rattle.tm_toggle.specs.declared.view.View.{View}
 

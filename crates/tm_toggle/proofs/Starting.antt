@@ -1,11 +1,11 @@
 -- A table at first keeps the rule, and so do a new client's seat and its first step.
-use Rattle.std.proofs.Common.{◌≡◌, ◌≢◌, ℕ, zero, suc, ◌+◌, ◌*◌, ◌<◌, ◌≤◌, ◌==◌, Bool, true, false, cond, List, [], ◌∷◌, ◌++◌, length, slice_index_or, slice_set, map, replicate, inl, inr, ⊎_elim, refl, sym, ◌∙◌, ap, subst, arith, length-set, length-append, eq-eqb, ne_eqb, ◌⊎◌}
-use Rattle.std.specs.declared.option.Option.TheVariants.{None, Some}
+use Rattle.std.proofs.Common.{◌≡◌, ◌≢◌, ℕ, zero, suc, ◌+◌, ◌*◌, ◌<◌, ◌≤◌, ◌==◌, Bool, true, false, cond, List, [], ◌∷◌, ◌++◌, length, slice_index_or, slice_set, map, replicate, inl, inr, ⊎_elim, refl, sym, ◌∙◌, ap, subst, arith, length-set, eq-eqb, ne_eqb, ◌⊎◌}
+use Rattle.std.specs.declared.option.Option.TheVariants.{None}
 use Rattle.std.proofs.lemmas.Bool.{cases_eq}
 use mathlib.Core.Option.{some, none, some-injective, some-ne-none}
 use mathlib.Core.Option as maybe
 use lib.ListN.{get_elem?, length-map, length-replicate}
-use Rattle.atomic_table.specs.Table.{State as TableState, step, takes, Allows, Splits, opening as opening_table}
+use Rattle.atomic_table.specs.Table.{step, takes, Allows, Splits, opening as opening_table}
 use Rattle.atomic_table.proofs.Lists.{at_set, set_here, set_else, at_map}
 use Rattle.tm_seq.specs.Kind.{Kind}
 use Rattle.tm_model.specs.State.{State, place_count}
@@ -15,12 +15,12 @@ use Rattle.tm_model.specs.Good.{FullBox, FullSlot, FullCore}
 use Rattle.tm_model.specs.Laws.{IsOpening}
 use Rattle.tm_core.proofs.First.{first_is_good}
 use Rattle.tm_pair.specs.Views.{ClientView}
-use Rattle.tm_pair.specs.SideViews.{client_of, trustee_of}
+use Rattle.tm_pair.specs.SideViews.{client_of}
 use Rattle.tm_pair.specs.Moves.{core_after}
 use Rattle.tm_pair.specs.declared.moves.Move.TheVariants.{Open}
 use Rattle.tm_pair.proofs.Calling.{nothing_out}
 use Rattle.tm_toggle.specs.Contents.{IsClear, no_content}
-use Rattle.tm_toggle.specs.Ruled.{r_of, s_of, bit, opening_in, opening_by, client_in, trustee_in, IsByClient, IsByTrustee, IsHome, Course, IsUntouched, KnowsPlace, KnowsLog, Knows, Stands, Delegates}
+use Rattle.tm_toggle.specs.Ruled.{r_of, s_of, bit, opening_in, opening_by, client_in, IsByTrustee, IsHome, Course, Knows, Delegates}
 use Rattle.tm_toggle.specs.Plays.{Sat, first_view, settles, with_client, new_client}
 use Rattle.tm_toggle.specs.declared.content.Content.{Content}
 use Rattle.tm_toggle.specs.declared.view.View.{View}

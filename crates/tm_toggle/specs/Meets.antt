@@ -1,5 +1,5 @@
 -- What sides of one table tell of each other.
-use Rattle.std.specs.Prelude.{◌⊎◌, ℕ}
+use Rattle.std.specs.Prelude.{◌⊎◌}
 use Rattle.tm_model.specs.Lists.{IsPrefix}
 use Rattle.tm_model.specs.Ran.{ran}
 use Rattle.tm_pair.specs.Views.{ClientView, TrusteeView}

@@ -1,5 +1,5 @@
 -- A table for many threads at first.
-use Rattle.std.specs.Prelude.{◌≡◌, ℕ, ◌+◌, ◌<◌, false, List, [], ◌∷◌, length, slice_index_or}
+use Rattle.std.specs.Prelude.{◌≡◌, ℕ, ◌<◌, false, List, [], ◌∷◌, length, slice_index_or}
 use Rattle.atomic_table.specs.Seated.{TableId}
 use Rattle.tm_toggle.specs.Plays.{Sat, first_view, client_first}
 use Rattle.tm_model.specs.State.{State}

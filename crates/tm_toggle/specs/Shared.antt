@@ -1,11 +1,10 @@
 -- What a table for many threads and its sides stand for.
-use Rattle.std.proofs.Common.{◌≡◌, ℕ, ◌+◌, ◌*◌, ◌<◌, Bool, true, false, List, [], ◌∷◌, length, vec_len, slice_index, refl, sym, ◌∙◌, ap}
+use Rattle.std.proofs.Common.{◌≡◌, ℕ, ◌+◌, ◌*◌, ◌<◌, true, false, List, [], ◌∷◌, length, vec_len, slice_index, refl, sym, ◌∙◌, ap}
 use Rattle.std.specs.declared.option.Option.TheVariants.{None, Some}
 use Rattle.std.specs.Arc.{arc_value}
 use Rattle.atomic_table.specs.Seated.{TableId}
 use Rattle.tm_seq.specs.Kind.{Kind}
 use Rattle.tm_model.specs.State.{State, place_count}
-use Rattle.tm_model.specs.Slots.{slot_of}
 use Rattle.tm_pair.specs.Views.{BatchView, ClientView, TrusteeView}
 use Rattle.tm_pair.specs.Sides.{IsGoodClient, IsGoodTrustee}
 use Rattle.tm_toggle.specs.Ruled.{bit, opening_by, opening_in, client_in, trustee_in}

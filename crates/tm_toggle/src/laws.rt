@@ -1,6 +1,10 @@
 //! What holds of a table between any two atomic steps.
 ghost use Rattle.atomic_table.specs.Table.{State as TableState};
 ghost use Rattle.tm_toggle.specs.Ruled.{opening_by, Delegates};
+ghost use Rattle.tm_toggle.specs.Shared.{IsClientOf, IsTrusteeOf, IsSame};
+ghost use Rattle.tm_toggle.specs.declared.shared.SharedTable.{SharedTable};
+ghost use Rattle.tm_toggle.specs.declared.sides.SharedClient.{SharedClient};
+ghost use Rattle.tm_toggle.specs.declared.sides.SharedTrustee.{SharedTrustee};
 ghost use Rattle.tm_toggle.specs.OneCore.{ShowsOneCore};
 ghost use Rattle.tm_toggle.specs.declared.content.Content.{Content};
 ghost use Rattle.tm_toggle.specs.declared.view.View.{View};
@@ -21,4 +25,10 @@ use atomic_table::TableRule;
 /// the list (the clauses `next` of [`SharedTable`](crate::SharedTable)'s calls).
 pub fn one_good_core<S: Shareable>()
     ensures { (key : Key S S.Op S.Reply S.Task) (s : TableState (Content S S.Op S.Reply S.Task) (View S S.Op S.Reply S.Task)) → ⟦<Order<S> as TableRule<Content<S>, View<S>, Key<S>>>⟧.holds key s → ShowsOneCore S.kind (opening_by key) s }
+{}
+
+/// Handles of one table have the same sides.
+pub fn handles_share_sides<S: Shareable>()
+    ensures clients { (a b : SharedTable S S.Op S.Reply S.Task) (side : SharedClient S S.Op S.Reply S.Task) → IsSame a b → IsClientOf S.kind a side → IsClientOf S.kind b side }
+    ensures trustee { (a b : SharedTable S S.Op S.Reply S.Task) (side : SharedTrustee S S.Op S.Reply S.Task) → IsSame a b → IsTrusteeOf S.kind a side → IsTrusteeOf S.kind b side }
 {}

@@ -2,7 +2,7 @@
 ghost use Rattle.std.specs.Prelude.{◌≡◌, OnOk, IsOk};
 ghost use Rattle.tm_toggle.specs.Meets.{Meets, Follows};
 ghost use Rattle.tm_toggle.specs.Plays.{Compares};
-ghost use Rattle.tm_toggle.specs.Shared.{client_at, trustee_at, IsClientOf, IsTrusteeOf};
+ghost use Rattle.tm_toggle.specs.Shared.{client_at, trustee_at, client_past, trustee_past, IsClientOf, IsTrusteeOf};
 
 use crate::fitting::Shareable;
 use crate::meet::Meet;
@@ -26,6 +26,8 @@ impl<S: Shareable> Meet<S> for SharedTable<S> {
         ensures other { IsClientOf S.kind self.new other.new }
         ensures one_stays { client_at one.new ≡ client_at one.old }
         ensures other_stays { client_at other.new ≡ client_at other.old }
+        ensures one_calls { client_past one.new ≡ client_past one.old }
+        ensures other_calls { client_past other.new ≡ client_past other.old }
         ensures always { IsOk result }
     {
         self.note(one, other);
@@ -47,6 +49,8 @@ impl<S: Shareable> Meet<S> for SharedTable<S> {
         ensures side { IsClientOf S.kind self.new side.new }
         ensures home_stays { trustee_at home.new ≡ trustee_at home.old }
         ensures side_stays { client_at side.new ≡ client_at side.old }
+        ensures home_calls { trustee_past home.new ≡ trustee_past home.old }
+        ensures side_calls { client_past side.new ≡ client_past side.old }
         ensures always { IsOk result }
     {
         let shared = &self.table.shared;
@@ -70,6 +74,8 @@ impl<S: Shareable> SharedTable<S> {
         ensures other { IsClientOf S.kind self.now other.new }
         ensures one_stays { client_at one.new ≡ client_at one.old }
         ensures other_stays { client_at other.new ≡ client_at other.old }
+        ensures one_calls { client_past one.new ≡ client_past one.old }
+        ensures other_calls { client_past other.new ≡ client_past other.old }
     {
         let shared = &self.table.shared;
         let note = shared.split_seat::<ClientNote<S>>(&mut other.seat);

@@ -69,7 +69,13 @@ fn make<S: Shareable>(
     number: u32,
     config: Config,
     first: &Vec<First<S>>,
-) -> Result<(Table<Content<S>, View<S>, Key<S>, Order<S>, Global>, Seat<Content<S>, View<S>>), AllocError>
+) -> Result<
+    (
+        Table<Content<S>, View<S>, Key<S>, Order<S>, Global>,
+        Seat<Content<S>, View<S>>,
+    ),
+    AllocError,
+>
     requires buildable { IsBuildable config first.now.items }
     requires number { number < config.trustees }
     ensures { IfOk result (λ t. IsMade (opening_of number config first.now.items) t.0.shared.key t.0.shared.table_id t.1.table_id t.1.me) }

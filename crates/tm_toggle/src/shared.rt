@@ -56,6 +56,7 @@ impl<S: Shareable> PairTable<S> for SharedTable<S> {
         ensures did { OnOk result (Unit {0}) }
         ensures stays { OnErr result (self.new ≡ self.old) }
         ensures keeps { KeepsSides (shared_theory S.kind) self.old self.new side.old side.new }
+        ensures none { OnErr result (client_past side.new ≡ client_past side.old) }
         ensures next { OnOk result (IsNext (IsByClient (client_at side.old).place) (client_past side.old) (client_past side.new) (Publish (client_at side.old).place batch)) }
     {
         if side.out {

@@ -1,5 +1,5 @@
-use Rattle.std.proofs.Common.{rules, ◌≡◌, ℕ, ◌+◌, ◌*◌, ◌<◌, true, [], ◌∷◌, refl, sym, ◌∙◌, ap, subst, arith}
-use Rattle.tm_toggle.specs.Ruled.{r_of, opening_by}
+use Rattle.std.proofs.Common.{rules, ◌≡◌, ◌<◌, true, [], ◌∷◌, refl, ◌∙◌, ap, subst, arith}
+use Rattle.tm_toggle.specs.Ruled.{opening_by}
 use Rattle.tm_toggle.specs.Plays.{Sat, new_client}
 use Rattle.tm_toggle.specs.Opened.{maker}
 use Rattle.tm_toggle.proofs.Starting.{splits_as, settles_as}

@@ -1,4 +1,4 @@
-use Rattle.std.proofs.Common.{rules, ◌≡◌, ◌+◌, ◌<◌, ◌≤◌, ℕ, List, [], ◌∷◌, ◌++◌, length, replicate, arith, ap, ◌∙◌, sym, refl}
+use Rattle.std.proofs.Common.{rules, ◌≡◌, ℕ, [], ◌∷◌, ◌++◌, length, replicate, arith, ap, ◌∙◌}
 use lib.ListN.{length-replicate}
 use Rattle.tm_toggle.proofs.Starting.{snoc, empty_of}
 use Rattle.tm_toggle.proofs.opening.empties.Goals as goal

@@ -1,8 +1,6 @@
-use Rattle.std.proofs.Common.{rules, ◌≡◌, ◌+◌, ◌*◌, ◌<◌, ℕ, [], length, replicate, arith, ap, subst, ◌∙◌, sym, refl}
+use Rattle.std.proofs.Common.{rules, ◌≡◌, ◌+◌, ◌*◌, ℕ, length, replicate, arith, ap, subst, ◌∙◌, sym, refl}
 use lib.ListN.{length-replicate}
 use Rattle.tm_model.specs.Opening.{IsBuildable, opening_of}
-use Rattle.tm_toggle.specs.Ruled.{opening_by}
-use Rattle.tm_toggle.specs.Plays.{first_view}
 use Rattle.tm_toggle.specs.Opened.{IsMade}
 use Rattle.tm_toggle.specs.declared.sides.Key.{Key}
 use Rattle.tm_toggle.proofs.Starting.{starts, empty_of}

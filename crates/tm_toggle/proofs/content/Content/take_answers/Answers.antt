@@ -1,5 +1,5 @@
-use Rattle.std.proofs.Common.{rules, ◌≡◌, ℕ, ◌+◌, ◌<◌, ◌≤◌, List, [], ◌∷◌, ◌++◌, length, refl, sym, ◌∙◌, ap, arith}
-use Rattle.tm_toggle.proofs.Pouring.{one_more, as_many, none_left, all_over, back, begun, begun_long, length_snoc, gone}
+use Rattle.std.proofs.Common.{length, ap, arith}
+use Rattle.tm_toggle.proofs.Pouring.{one_more, as_many, none_left, all_over, begun, begun_long, length_snoc, gone}
 use Rattle.tm_batch.specs.declared.limits.TheConstants.{MOST_REQUESTS, MOST_ROOM, MOST_COMPLETIONS}
 use Rattle.tm_toggle.proofs.content.Content.take_answers.Goals as goal
 

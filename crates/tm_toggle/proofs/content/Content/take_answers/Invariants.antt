@@ -1,5 +1,4 @@
-use Rattle.std.proofs.Common.{◌≡◌, ℕ, ◌+◌, ◌≤◌, [], ◌++◌, length, reverse}
-use Rattle.tm_toggle.specs.Contents.{HasNoAnswers}
+use Rattle.std.proofs.Common.{◌≡◌, ◌+◌, ◌≤◌, [], ◌++◌, length, reverse}
 use Rattle.tm_batch.specs.declared.limits.TheConstants.{MOST_REQUESTS, MOST_ROOM, MOST_COMPLETIONS}
 use Rattle.tm_toggle.proofs.content.Content.take_answers.Given as goal
 

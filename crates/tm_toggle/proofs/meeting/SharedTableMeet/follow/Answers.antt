@@ -1,4 +1,4 @@
-use Rattle.std.proofs.Common.{rules, ◌≡◌, ◌<◌, ℕ, ◌+◌, ◌*◌, List, [], ◌∷◌, refl, sym, ◌∙◌, ap, subst, arith}
+use Rattle.std.proofs.Common.{rules, ◌<◌, sym, ◌∙◌, ap, subst, arith}
 use Rattle.tm_toggle.specs.Ruled.{opening_by}
 use Rattle.tm_toggle.specs.Plays.{Sat}
 use Rattle.tm_toggle.proofs.Noting.{client_notes_as, trustee_notes_as, joins, compares_as, follows_as}

@@ -1,12 +1,10 @@
-use Rattle.std.proofs.Common.{rules, ◌≡◌, ◌+◌, ◌*◌, ◌<◌, ℕ, [], ◌∷◌, List, length, replicate, vec_len, arith, ap, subst, ◌∙◌, sym, refl}
+use Rattle.std.proofs.Common.{◌≡◌, ◌+◌, ◌<◌, ℕ, length, replicate, arith, ap, subst, ◌∙◌, sym}
 use Rattle.std.specs.Arc.{arc_value}
 use Rattle.tm_model.specs.State.{State, place_count}
 use Rattle.tm_pair.specs.Theory.{IsNewTable}
 use Rattle.tm_toggle.specs.Ruled.{opening_by}
-use Rattle.tm_toggle.specs.Plays.{Sat, first_view}
 use Rattle.tm_toggle.specs.Shared.{IsSized, id_of, shared_theory}
-use Rattle.tm_toggle.specs.Opened.{maker, AreFirstSides}
-use Rattle.tm_toggle.specs.declared.sides.Key.{Key}
+use Rattle.tm_toggle.specs.Opened.{AreFirstSides}
 use Rattle.tm_toggle.specs.declared.shared.SharedTable.{SharedTable}
 use Rattle.tm_toggle.proofs.NewTables.{no_sides, one_more_side, is_new}
 use Rattle.tm_toggle.proofs.shared.SharedTable.new.Goals as goal

@@ -1,4 +1,4 @@
-use Rattle.std.proofs.Common.{◌≡◌, ℕ, [], replicate, vec_len, length}
+use Rattle.std.proofs.Common.{◌≡◌, [], vec_len}
 use Rattle.tm_toggle.specs.Ruled.{opening_by}
 use Rattle.tm_toggle.specs.Shared.{IsSized}
 use Rattle.tm_toggle.specs.Opened.{maker, AreFirstSides}

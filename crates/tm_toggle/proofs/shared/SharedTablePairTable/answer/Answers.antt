@@ -1,14 +1,11 @@
-use Rattle.std.proofs.Common.{rules, ◌≡◌, ◌≢◌, ◌<◌, ◌≤◌, ℕ, ◌+◌, ◌-◌, ◌*◌, true, false, List, [], ◌∷◌, length, length-set, refl, sym, ◌∙◌, ap, subst, arith}
-use Rattle.std.specs.declared.option.Option.TheVariants.{None, Some}
+use Rattle.std.proofs.Common.{rules, ◌<◌, ℕ, ◌+◌, ◌-◌, ◌*◌, ◌∷◌, length-set, refl, sym, ◌∙◌, ap, subst, arith}
 use Rattle.atomic_table.specs.Table.{rest}
-use Rattle.tm_model.specs.Answering.{MayGrow}
-use Rattle.tm_pair.specs.Views.{hand_of}
 use Rattle.tm_pair.specs.Calls.{MayAnswer, HasAnswered}
 use Rattle.tm_pair.specs.Moves.{answer_of}
 use Rattle.tm_toggle.specs.Contents.{answers_in, HasNoRequests, HasNoAnswers}
-use Rattle.tm_toggle.specs.Ruled.{bit, r_of, s_of, opening_by, opening_in, trustee_in, IsByTrustee, IsNext}
+use Rattle.tm_toggle.specs.Ruled.{opening_by, trustee_in, IsByTrustee, IsNext}
 use Rattle.tm_toggle.specs.Plays.{Sat, replies}
-use Rattle.tm_toggle.specs.Shared.{opening_at, trustee_at, trustee_knows}
+use Rattle.tm_toggle.specs.Shared.{trustee_at, trustee_knows}
 use Rattle.tm_toggle.proofs.Facts.{low, some_and}
 use Rattle.tm_toggle.proofs.Answering.{answers_as}
 use Rattle.tm_toggle.proofs.Raising.{lifts_as}

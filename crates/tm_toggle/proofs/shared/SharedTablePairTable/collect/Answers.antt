@@ -1,8 +1,7 @@
-use Rattle.std.proofs.Common.{rules, ◌≡◌, ◌≢◌, ◌<◌, ◌≤◌, ℕ, ◌+◌, ◌-◌, ◌*◌, true, false, List, [], ◌∷◌, length, length-set, refl, sym, ◌∙◌, ap, subst, arith}
+use Rattle.std.proofs.Common.{rules, ◌<◌, ℕ, ◌+◌, ◌*◌, ◌∷◌, refl, sym, ◌∙◌, ap, subst, arith}
 use Rattle.std.specs.declared.option.Option.TheVariants.{None, Some}
 use Rattle.atomic_table.specs.Table.{rest}
-use Rattle.tm_pair.specs.Calls.{Collects, IsPending, Gets}
-use Rattle.tm_pair.specs.declared.table.Collected.TheVariants.{Answers, Pending}
+use Rattle.tm_pair.specs.Calls.{IsPending, Gets}
 use Rattle.tm_pair.specs.declared.moves.Move.TheVariants.{Collect}
 use Rattle.tm_toggle.specs.Contents.{answers_in, HasNoRequests}
 use Rattle.tm_toggle.specs.Ruled.{listed, bit, s_of, opening_by, client_in, IsByClient, IsNext}

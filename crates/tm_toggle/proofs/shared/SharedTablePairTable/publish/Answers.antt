@@ -1,15 +1,14 @@
-use Rattle.std.proofs.Common.{rules, ◌≡◌, ◌≢◌, ◌<◌, ◌≤◌, ℕ, ◌+◌, ◌-◌, ◌*◌, true, false, List, [], ◌∷◌, length, refl, sym, ◌∙◌, ap, subst, arith}
+use Rattle.std.proofs.Common.{rules, ◌≡◌, ◌<◌, ◌≤◌, ℕ, ◌+◌, ◌-◌, ◌*◌, [], ◌∷◌, length, refl, sym, ◌∙◌, ap, subst, arith}
 use Rattle.std.specs.declared.option.Option.TheVariants.{None, Some}
-use Rattle.atomic_table.specs.Table.{rest, step}
-use mathlib.Core.Option.{none}
+use Rattle.atomic_table.specs.Table.{rest}
 use Rattle.tm_batch.specs.declared.limits.TheConstants.{MOST_REQUESTS, MOST_ROOM}
 use Rattle.tm_model.specs.Orderly.{IsOrderly}
 use Rattle.tm_pair.specs.Calls.{Publishes}
 use Rattle.tm_pair.specs.declared.moves.Move.TheVariants.{Publish}
 use Rattle.tm_toggle.specs.Contents.{batch_in, HasNoRequests, HasNoAnswers}
 use Rattle.tm_toggle.specs.Ruled.{bit, r_of, opening_by, client_in, IsByClient, IsNext}
-use Rattle.tm_toggle.specs.Plays.{Sat, asks, publishes}
-use Rattle.tm_toggle.specs.Shared.{opening_at, client_at, client_knows, client_past}
+use Rattle.tm_toggle.specs.Plays.{Sat, asks}
+use Rattle.tm_toggle.specs.Shared.{client_at, client_knows}
 use Rattle.tm_toggle.proofs.Facts.{low}
 use Rattle.tm_toggle.proofs.Publishing.{publishes_as}
 use Rattle.tm_toggle.proofs.Keeping.{held, same_first, published_side, told_published, keeps_sides}

@@ -1,11 +1,10 @@
-use Rattle.std.proofs.Common.{rules, ◌≡◌, ◌≢◌, ◌<◌, ◌≤◌, ℕ, ◌+◌, ◌-◌, ◌*◌, true, false, List, [], ◌∷◌, length, length-set, refl, sym, ◌∙◌, ap, subst, arith}
+use Rattle.std.proofs.Common.{rules, ◌≡◌, ◌<◌, ◌+◌, ◌*◌, ◌∷◌, refl, sym, ◌∙◌, ap, subst, arith}
 use Rattle.std.specs.declared.option.Option.TheVariants.{None, Some}
 use Rattle.atomic_table.specs.Table.{rest}
-use Rattle.tm_pair.specs.Views.{hand_of}
 use Rattle.tm_pair.specs.Calls.{SeesNothing, Takes}
 use Rattle.tm_pair.specs.declared.moves.Move.TheVariants.{See}
 use Rattle.tm_toggle.specs.Contents.{batch_in, HasNoAnswers}
-use Rattle.tm_toggle.specs.Ruled.{listed, bit, r_of, s_of, opening_by, trustee_in, IsByTrustee, IsNext}
+use Rattle.tm_toggle.specs.Ruled.{listed, bit, opening_by, trustee_in, IsByTrustee, IsNext}
 use Rattle.tm_toggle.specs.Plays.{Sat, replies}
 use Rattle.tm_toggle.specs.Shared.{opening_at, trustee_at, trustee_knows}
 use Rattle.tm_toggle.proofs.Seeing.{sees_as}
