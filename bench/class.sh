@@ -1,5 +1,5 @@
 #!/usr/bin/env bash
-# Times get, set, touch and incr of a class that holds 1,000 to 1,000,000 items. The program below is proved and run as a
+# Times get, set, touch and incr of 64 classes that hold 1,000 to 1,000,000 items. The program below is proved and run as a
 # crate over mc_shard in a copy of the repository. It is no part of the gate.
 set -e
 top=$(cd "$(dirname "$0")/.." && pwd)
@@ -9,14 +9,15 @@ git clone -q "$top" "$room/repo"
 cd "$room/repo"
 mkdir -p crates/class_speed/src
 cat >crates/class_speed/src/main.rt <<'END'
-//! Times `get`, `set`, `touch` and `incr` of a class that holds 1,000 to 1,000,000 items: 200,000 operations
+//! Times `get`, `set`, `touch` and `incr` of 64 classes that hold 1,000 to 1,000,000 items: 200,000 operations
 //! each, on 1,000 keys that are spread over all.
 #![tactic(auto)]
 
 use itoa::Buffer;
-use mc_item::{Bytes, Key};
+use mc_item::{Bytes, CLASSES, Key, MOST_ITEMS, class_of};
 use mc_shard::{How, Shard, ShardOp, ShardReply};
 use std::alloc::Global;
+use std::hash::RandomState;
 use std::time::Instant;
 use tm_seq::Entrusted;
 
@@ -25,10 +26,11 @@ fn key(alloc: Global, n: u64) -> Option<Key> {
     Key::of(alloc, buffer.format(n).as_bytes()).ok()
 }
 
-fn ask(alloc: Global, shard: &mut Shard, what: u8, n: u64, moment: u64) -> bool {
+fn ask(alloc: Global, shards: &mut Vec<Shard>, what: u8, n: u64, moment: u64) -> bool {
     let Some(key) = key(alloc, n) else {
         return false;
     };
+    let class = class_of(&key) as usize;
     let op = match what {
         0 => ShardOp::Get { key, moment },
         1 => {
@@ -56,10 +58,13 @@ fn ask(alloc: Global, shard: &mut Shard, what: u8, n: u64, moment: u64) -> bool 
             moment,
         },
     };
-    !matches!(shard.run(op), ShardReply::NoMemory)
+    match shards.get_mut(class) {
+        Some(shard) => !matches!(shard.run(op), ShardReply::NoMemory),
+        None => false,
+    }
 }
 
-fn many(alloc: Global, shard: &mut Shard, what: u8, keys: u64, times: u64, moment: u64) -> u64 {
+fn many(alloc: Global, shards: &mut Vec<Shard>, what: u8, keys: u64, times: u64, moment: u64) -> u64 {
     let mut at = 12345u64;
     let mut done = 0u64;
     for i in 0..times {
@@ -67,7 +72,7 @@ fn many(alloc: Global, shard: &mut Shard, what: u8, keys: u64, times: u64, momen
             .wrapping_mul(6364136223846793005)
             .wrapping_add(1442695040888963407);
         let n = ((at >> 33) % 1000).wrapping_mul(keys / 1000);
-        if ask(alloc, shard, what, n, moment.wrapping_add(i / 100)) {
+        if ask(alloc, shards, what, n, moment.wrapping_add(i / 100)) {
             done = done.wrapping_add(1);
         }
     }
@@ -77,22 +82,32 @@ fn many(alloc: Global, shard: &mut Shard, what: u8, keys: u64, times: u64, momen
 fn main(rt: HostRuntime) -> std::io::Result<()> {
     let alloc = rt.alloc();
     for keys in [1000u64, 10000, 100000, 1000000] {
-        let Ok(mut shard) = Shard::new(alloc, 0, 0) else {
-            return Ok(());
-        };
+        let hasher = RandomState::new(&rt)?;
+        let mut shards = Vec::new(alloc);
+        for class in 0..CLASSES {
+            let Ok(shard) = Shard::new(alloc, class, 0, MOST_ITEMS, hasher) else {
+                return Ok(());
+            };
+            if shards.push(shard).is_err() {
+                return Ok(());
+            }
+        }
         let start = Instant::now(&rt)?;
         for n in 0..keys {
-            ask(alloc, &mut shard, 1, n, 1000000);
+            ask(alloc, &mut shards, 1, n, 1000000);
         }
         let spent = start.elapsed(&rt)?.as_micros();
         println!(rt; "{keys} keys: fill {spent} us")?;
         for (what, name) in [(0u8, "get"), (1, "set"), (2, "touch"), (3, "incr")] {
             let start = Instant::now(&rt)?;
-            let done = many(alloc, &mut shard, what, keys, 200000, 1000000);
+            let done = many(alloc, &mut shards, what, keys, 200000, 1000000);
             let spent = start.elapsed(&rt)?.as_micros();
             println!(rt; "{keys} keys, {name}: {done} in {spent} us")?;
         }
-        let held = shard.held();
+        let mut held = 0u64;
+        for shard in &shards {
+            held = held.wrapping_add(shard.held());
+        }
         println!(rt; "held {held}")?;
     }
     Ok(())

@@ -67,6 +67,11 @@ verbosity 1 noreply~ => Verbosity quiet.
 verbosity noreply~ => BadLine.
 quit~ => Quit.
 quit now~ => BadLine.
+gat 20 a~ => Gat 20 a.
+gats -1 a b~ => Gats -1 a b.
+gat noreply a~ => BadLine.
+gat 20~ => BadLine.
+gat~ => BadLine.
 ^ => Unknown.
 GET a~ => Unknown.
 version|~ => Unknown.";
@@ -177,6 +182,15 @@ fn tell_command(out: &mut String, command: &Command) -> Result<(), AllocError> {
         }
         Command::Get { keys, with_cas } => {
             out.push_str(if *with_cas { "Gets" } else { "Get" })?;
+            tell_keys(out, keys)
+        }
+        Command::GetTouch {
+            exptime,
+            keys,
+            with_cas,
+        } => {
+            out.push_str(if *with_cas { "Gats" } else { "Gat" })?;
+            write!(out, " {exptime}")?;
             tell_keys(out, keys)
         }
         other => tell_keyed(out, other),

@@ -1,5 +1,5 @@
 -- The limits of a line, written a second time as numbers, on lines at their edges. The checker computes them.
-use Rattle.std.proofs.Common.{◌≡◌, true, false, [], ◌∷◌, ◌++◌, replicate, pos, refl}
+use Rattle.std.proofs.Common.{◌≡◌, true, false, [], ◌∷◌, ◌++◌, replicate, pos, neg_ℤ, refl}
 use Rattle.std.specs.Prelude.{codes}
 use Rattle.mc_item.specs.Keys.{is_key}
 use Rattle.mc_item.specs.Numbers.{number_below, digits_below, exptime_of}
@@ -7,7 +7,8 @@ use Rattle.mc_line.specs.declared.storage.TheConstants.{MOST_DECLARED}
 use Rattle.mc_model.specs.declared.line.Saying.TheVariants.{Alone, Awaits}
 use Rattle.mc_model.specs.declared.message.How.TheVariants.{Set}
 use Rattle.mc_model.specs.declared.message.Fault.TheVariants.{BadLine, LineTooLong, Unknown}
-use Rattle.mc_model.specs.declared.message.Message.TheVariants.{Fault}
+use Rattle.mc_model.specs.declared.message.Message.TheVariants.{Command, Fault}
+use Rattle.mc_model.specs.declared.message.Command.TheVariants.{GetTouch}
 use Rattle.mc_model.specs.Commands.{are_keys}
 use Rattle.mc_model.specs.Line.{says}
 
@@ -33,6 +34,15 @@ keys_more = refl
 
 no_keys : are_keys [] ≡ false
 no_keys = refl
+
+-- a gat has an exptime and a key at least
+gat : says (codes "gats -1 a b\r\n") ≡ Alone (Command (GetTouch (neg_ℤ (pos 1)) (codes "a" ∷ codes "b" ∷ []) true))
+unfolding says number_below digits_below exptime_of is_key
+gat = refl
+
+gat_alone : says (codes "gat 20\r\n") ≡ Alone (Fault BadLine)
+unfolding says number_below digits_below exptime_of is_key
+gat_alone = refl
 
 -- a line as long as a line may be, with its line feed, and one that is longer by one
 longest : says (replicate 65535 103 ++ 10 ∷ []) ≡ Alone (Fault Unknown)

@@ -8,6 +8,7 @@ mod rows;
 use crate::status::Status;
 use crate::top::top_in_turns;
 use std::alloc::{AllocError, Global};
+use std::hash::RandomState;
 use tm_base::{FreeGate, MemClock, MemSink, MemSource};
 
 // The moment at which rows run that name no clock.
@@ -40,6 +41,7 @@ fn run(
     clock: &[u64],
     input: &[u8],
     cuts: Vec<usize>,
+    hasher: RandomState,
 ) -> Result<(Vec<u8>, Status), AllocError> {
     let words = words(alloc, &["run", "--turns"])?;
     let mut source = MemSource::new(Vec::from_slice(alloc, input)?, cuts, Vec::new(alloc));
@@ -52,7 +54,7 @@ fn run(
         &mut sink,
         &mut clock,
         &FreeGate,
-        RandomState::new(&rt)?,
+        hasher,
     );
     Ok((Vec::from_slice(alloc, sink.bytes())?, status))
 }
@@ -65,10 +67,11 @@ fn shows(
     piece: usize,
     output: &[u8],
     status: Status,
+    hasher: RandomState,
 ) -> Result<bool, AllocError> {
     let cuts = vec![in alloc; piece; input.len()]?;
-    let (whole, ended) = run(alloc, clock, input, Vec::new(alloc))?;
-    let (pieced, pieced_ended) = run(alloc, clock, input, cuts)?;
+    let (whole, ended) = run(alloc, clock, input, Vec::new(alloc), hasher)?;
+    let (pieced, pieced_ended) = run(alloc, clock, input, cuts, hasher)?;
     let whole = whole.as_slice() == output && ended == status;
     Ok(whole && pieced.as_slice() == output && pieced_ended == status)
 }

@@ -21,6 +21,7 @@ fn run_failing(
     alloc: Global,
     cuts: Vec<usize>,
     read: u64,
+    hasher: RandomState,
 ) -> Result<(Vec<u8>, Status), AllocError> {
     let words = words(alloc, &["run", "--turns"])?;
     let failing = vec![in alloc; read]?;
@@ -34,7 +35,7 @@ fn run_failing(
         &mut sink,
         &mut clock,
         &FreeGate,
-        RandomState::new(&rt)?,
+        hasher,
     );
     Ok((Vec::from_slice(alloc, sink.bytes())?, status))
 }
@@ -49,7 +50,12 @@ fn what_came_before_a_failed_read_is_answered(rt: HostRuntime) -> Result<(), Fai
         (25, 1, SAMPLE_SHOWN),
     ];
     for (cut, read, output) in rows {
-        let (written, status) = run_failing(alloc, vec![in alloc; cut]?, read)?;
+        let (written, status) = run_failing(
+            alloc,
+            vec![in alloc; cut]?,
+            read,
+            RandomState::new(&rt)?,
+        )?;
         assert!(rt; written.as_slice() == output, "after {cut} bytes");
         assert_eq!(rt; status, Status::ReadFault, "after {cut} bytes");
     }
@@ -158,6 +164,7 @@ fn run_limited(
     most: u64,
     input: Vec<u8>,
     cuts: Vec<usize>,
+    hasher: RandomState,
 ) -> Result<(Vec<u8>, Result<End, Stop>), AllocError> {
     let mut source = MemSource::new(input, cuts, Vec::new(alloc));
     let mut sink = MemSink::new(alloc, 1 << 30, Vec::new(alloc));
@@ -169,7 +176,7 @@ fn run_limited(
         &mut sink,
         &mut clock,
         &FreeGate,
-        RandomState::new(&rt)?,
+        hasher,
     );
     Ok((Vec::from_slice(alloc, sink.bytes())?, end))
 }
@@ -192,9 +199,15 @@ fn an_input_has_a_limit(rt: HostRuntime) -> Result<(), Fail> {
         let read = text(alloc, input)?;
         let wanted = text(alloc, output)?;
         let ones = vec![in alloc; 1usize; read.len()]?;
-        let (written, whole) = run_limited(alloc, most, read.clone()?, Vec::new(alloc))?;
+        let (written, whole) = run_limited(
+            alloc,
+            most,
+            read.clone()?,
+            Vec::new(alloc),
+            RandomState::new(&rt)?,
+        )?;
         assert!(rt; written == wanted && whole == Ok(end), "{most} of {input}");
-        let (written, pieced) = run_limited(alloc, most, read, ones)?;
+        let (written, pieced) = run_limited(alloc, most, read, ones, RandomState::new(&rt)?)?;
         assert!(rt; written == wanted && pieced == Ok(end), "{most} of {input}");
     }
     Ok(())

@@ -2,6 +2,7 @@
 use super::{NOW, shows, text};
 use crate::status::Status;
 use std::alloc::{AllocError, Global};
+use std::hash::RandomState;
 use std::process::Abort;
 use std::test::Fail;
 
@@ -60,7 +61,15 @@ fn limits_are_kept(rt: HostRuntime) -> Result<(), Fail> {
         let read = joined(alloc, input)?;
         let written = joined(alloc, output)?;
         assert!(rt;
-            shows(alloc, &[NOW], &read, 997, &written, Status::Ended)?,
+            shows(
+                alloc,
+                &[NOW],
+                &read,
+                997,
+                &written,
+                Status::Ended,
+                RandomState::new(&rt)?
+            )?,
             "of {} bytes",
             read.len()
         );
@@ -78,6 +87,16 @@ fn many_keys_are_looked_up(rt: HostRuntime) -> Result<(), Fail> {
     }
     line.extend_from_slice(b"\r\n")?;
     assert_eq!(rt; line.len(), 4_105);
-    assert!(rt; shows(alloc, &[NOW], &line, 1, b"END\r\n", Status::Ended)?);
+    assert!(rt;
+        shows(
+            alloc,
+            &[NOW],
+            &line,
+            1,
+            b"END\r\n",
+            Status::Ended,
+            RandomState::new(&rt)?
+        )?
+    );
     Ok(())
 }

@@ -1,11 +1,12 @@
 //! Short inputs, and what is written for them.
 use super::{NOW, shows, text};
 use crate::status::Status;
+use std::hash::RandomState;
 use std::process::Abort;
 use std::test::Fail;
 
 // Inputs at one moment that end between two commands, and their outputs.
-const ROWS: [(&str, &str); 22] = [
+const ROWS: [(&str, &str); 24] = [
     ("", ""),
     ("set a 5 0 3~abc~get a~", "STORED~VALUE a 5 3~abc~END~"),
     // Each change gives the next cas number of the key's class.
@@ -78,6 +79,17 @@ const ROWS: [(&str, &str); 22] = [
         VALUE a 0 1~9~VALUE b 0 3~wyz~END~TOUCHED~DELETED~OK~OK~\
         STAT curr_items 0~STAT total_items 6~END~VERSION 1.0.0-trust~",
     ),
+    // A `gat` wants an exptime and a key.
+    (
+        "gat~gat 5~gats -1~gat x a~",
+        "CLIENT_ERROR bad command line format~CLIENT_ERROR bad command line format~\
+        CLIENT_ERROR bad command line format~CLIENT_ERROR bad command line format~",
+    ),
+    (
+        "set a 0 0 1~x~set b 7 0 1~y~gat 0 a c b~gats 60 b a~gat -1 a b~get a b~",
+        "STORED~STORED~VALUE a 0 1~x~VALUE b 7 1~y~END~VALUE b 7 1 98~y~VALUE a 0 1 97~x~END~\
+        VALUE a 0 1~x~VALUE b 7 1~y~END~END~",
+    ),
     // What stands behind a `quit` is not looked at.
     ("version~quit~get a~", "VERSION 1.0.0-trust~"),
     ("quit~set a 0 0 5~ab", ""),
@@ -97,7 +109,15 @@ fn commands_are_answered(rt: HostRuntime) -> Result<(), Fail> {
         let read = text(alloc, input)?;
         let written = text(alloc, output)?;
         assert!(rt;
-            shows(alloc, &[NOW], &read, 1, &written, Status::Ended)?,
+            shows(
+                alloc,
+                &[NOW],
+                &read,
+                1,
+                &written,
+                Status::Ended,
+                RandomState::new(&rt)?
+            )?,
             "at {input}"
         );
     }
@@ -108,7 +128,7 @@ fn commands_are_answered(rt: HostRuntime) -> Result<(), Fail> {
 #[test]
 fn moments_are_those_of_the_clock(rt: HostRuntime) -> Result<(), Fail> {
     let alloc = rt.alloc();
-    let rows: [(&[u64], &str, &str); 4] = [
+    let rows: [(&[u64], &str, &str); 5] = [
         (
             &[1_000_000_000],
             "set a 0 2592000 1~x~set b 0 2592001 1~x~set c 0 -1 1~x~set d 0 0 1~x~get a b c d~",
@@ -125,6 +145,12 @@ fn moments_are_those_of_the_clock(rt: HostRuntime) -> Result<(), Fail> {
             "STORED~END~END~",
         ),
         (
+            &[100, 105, 115, 125],
+            "set a 0 10 1~x~gats 20 a b~get a~get a~gat 5~",
+            "STORED~VALUE a 0 1 97~x~END~VALUE a 0 1~x~END~END~\
+            CLIENT_ERROR bad command line format~",
+        ),
+        (
             &[100, 100, 100, 105],
             "flush_all 5~flush_all~set a 0 0 1~x~get a~",
             "OK~OK~STORED~VALUE a 0 1~x~END~",
@@ -134,7 +160,15 @@ fn moments_are_those_of_the_clock(rt: HostRuntime) -> Result<(), Fail> {
         let read = text(alloc, input)?;
         let written = text(alloc, output)?;
         assert!(rt;
-            shows(alloc, clock, &read, 1, &written, Status::Ended)?,
+            shows(
+                alloc,
+                clock,
+                &read,
+                1,
+                &written,
+                Status::Ended,
+                RandomState::new(&rt)?
+            )?,
             "at {input}"
         );
     }
@@ -153,7 +187,15 @@ fn an_input_may_end_inside_a_command(rt: HostRuntime) -> Result<(), Fail> {
         let read = text(alloc, input)?;
         let written = text(alloc, output)?;
         assert!(rt;
-            shows(alloc, &[NOW], &read, 1, &written, Status::EndedInside)?,
+            shows(
+                alloc,
+                &[NOW],
+                &read,
+                1,
+                &written,
+                Status::EndedInside,
+                RandomState::new(&rt)?
+            )?,
             "at {input}"
         );
     }
