@@ -1,0 +1,3 @@
+pub mod Going
+pub mod Living
+pub mod Bringing
