@@ -13,15 +13,16 @@ use Rattle.tm_batch.specs.declared.message.Completion.{Completion}
 use Rattle.tm_batch.specs.declared.message.AnswerBatch.{AnswerBatch}
 use Rattle.tm_model.specs.State.{State, holds_at}
 use Rattle.tm_model.specs.Ran.{ran}
-use Rattle.tm_model.specs.Holds.{launches_in, brought_by, gifts_of, answers_in, gifts_in, came}
+use Rattle.tm_model.specs.Holds.{launches_in, gave, brought_by, gifts_of, answers_in, gifts_in, came}
 use Rattle.tm_model.specs.Fits.{Fits}
 use Rattle.tm_core.proofs.ClientTickets.{tickets_come_first}
 use Rattle.tm_core.proofs.Tallies.{answers_in-append, gifts_in-append, gifts_of-append}
 use Rattle.tm_pair.specs.Views.{BatchView, ClientView}
 use Rattle.tm_pair.specs.Sides.{IsGoodClient}
 use Rattle.tm_pair.specs.Calls.{AreAnswers, Gets}
-use Rattle.tm_client.specs.Requests.{out_requests, bringing, brings, brings_in}
-use Rattle.tm_client.specs.SideLaws.{Brings, CollectsBring}
+use Rattle.tm_client.specs.Lanes.{out_requests, bringing, AreHeld}
+use Rattle.tm_client.specs.Clients.{brings}
+use Rattle.tm_client.specs.SideLaws.{brings_in, Brings, CollectsBring}
 use Rattle.tm_client.proofs.Living.{sent_is, answers_as_many, answers_fitting}
 
 -- what holds behind lists that are as long
@@ -163,8 +164,15 @@ module _ {V O R T : Type 0} where
         let place = ap (λ c. holds_at opening c id) gets.place in
         omega (arith, now, before, none, gifts, first, was_sent, was_answers, by_gifts, place)
 
+    still_held : (waits : List (Request V O R T)) → AreHeld opening old waits → AreHeld opening new waits
+    still_held waits held before after q id e names =
+        let was = held before after q id e names in
+        let more = came_more id in
+        let given = ap (λ l. gave id (l ++ before)) gets.sent in
+        omega (arith, was, more, given)
+
     pub brought_all : Brings opening (out_requests old.out) a old new
-    brought_all = record { fits = batch_fits; ends = none_ends; bring = all_bring b a.answers.items batch_fits; came_to = came_more }
+    brought_all = record { fits = batch_fits; held = still_held; ends = none_ends; bring = all_bring b a.answers.items batch_fits; came_to = came_more }
 
   pub collects_bring : (kind : Kind V O R T) → CollectsBring kind
   collects_bring kind opening old new a was good gets = brought_all kind opening old new a was good gets

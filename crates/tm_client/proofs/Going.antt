@@ -10,8 +10,9 @@ use Rattle.tm_model.specs.State.{State}
 use Rattle.tm_model.specs.Holds.{Names, has_bye, launches_in, gave, answers_in, ended_in, came}
 use Rattle.tm_model.specs.Orderly.{GrantsBelow, IsOrderly}
 use Rattle.tm_core.proofs.Tallies.{launches_in-append, came_same}
-use Rattle.tm_client.specs.Requests.{IsAccepted, AreHeldBehind}
-use Rattle.tm_client.specs.SideLaws.{MayGo, WaitsMayGo, ByesMayGo}
+use Rattle.tm_pair.specs.Views.{ClientView}
+use Rattle.tm_client.specs.Lanes.{IsAccepted, AreHeld}
+use Rattle.tm_client.specs.SideLaws.{WaitsMayGo, RestIsHeld, ByesMayGo}
 use Rattle.tm_client.proofs.Living.{as_many_came, ended_none}
 
 all_front : {X : Type 0} (P : X → Type 0) (xs ys : List X) → AllByRecursion P (xs ++ ys) → AllByRecursion P xs
@@ -62,19 +63,26 @@ module _ {V O R T : Type 0} where
         let joined = launches_in-append view.sent b in
         let none = accepted_launches b own in
         record {
-          orderly = record {
-            held = λ before after q id e names. held before (after ++ rest) q id (ap (λ l. l ++ rest) e ∙ append_assoc before (q ∷ after) rest) names;
-            grants = all_front (GrantsBelow opening.setup.config.clients) b rest grants;
-            launches = omega (arith, joined, none, launches);
-            bye = λ e. absurd (let no = accepted_no_bye b own in cc);
-            last = λ e. none_front b rest (last e);
-            trustee = λ ge. absurd (omega (arith, ge, client));
-          };
-          rest_held = λ before after q id e names.
-              let more = held (b ++ before) after q id (ap (λ l. b ++ l) e ∙ sym (append_assoc b before (q ∷ after))) names in
-              let same = came_same opening view.place view.sent b view.got id (as_many_came kind opening view good) in
-              rw (same, append_assoc view.sent b before) more;
+          held = λ before after q id e names. held before (after ++ rest) q id (ap (λ l. l ++ rest) e ∙ append_assoc before (q ∷ after) rest) names;
+          grants = all_front (GrantsBelow opening.setup.config.clients) b rest grants;
+          launches = omega (arith, joined, none, launches);
+          bye = λ e. absurd (let no = accepted_no_bye b own in cc);
+          last = λ e. none_front b rest (last e);
+          trustee = λ ge. absurd (omega (arith, ge, client));
         }
+
+    pub rest_is_held : RestIsHeld kind
+    rest_is_held opening old new b rest room good publishes held =
+        let same : (id : ℕ) → came opening new.place new.sent new.got id ≡ came opening old.place old.sent old.got id =
+        λ id. rw (publishes.place, publishes.sent, publishes.got)
+        (came_same opening old.place old.sent b old.got id (as_many_came kind opening old good)) in
+        (
+          λ before after q id e names.
+              let more = held (b ++ before) after q id (ap (λ l. b ++ l) e ∙ sym (append_assoc b before (q ∷ after))) names in
+              let sent : new.sent ++ before ≡ old.sent ++ (b ++ before) = ap (λ l. l ++ before) publishes.sent ∙ append_assoc old.sent b before in
+              rw (same id, sent) more,
+          same,
+        )
 
     pub byes_may_go : ByesMayGo kind
     byes_may_go opening view good client launches still =

@@ -19,7 +19,7 @@ use Rattle.tm_core.proofs.ClientHolds.{logs_tell_holds}
 use Rattle.tm_core.proofs.Tallies.{gave-append, launches_in-append, bye_more, came_same}
 use Rattle.tm_pair.specs.Views.{BatchView, ClientView}
 use Rattle.tm_pair.specs.Sides.{HasRun, IsGoodClient}
-use Rattle.tm_client.specs.Requests.{out_requests}
+use Rattle.tm_client.specs.Lanes.{out_requests}
 use Rattle.tm_client.specs.SideLaws.{AnswersAreOfEntries, HeldIsLive}
 
 module _ {V O R T : Type 0} where

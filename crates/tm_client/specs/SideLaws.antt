@@ -15,19 +15,22 @@ use Rattle.tm_model.specs.Orderly.{GrantsBelow, IsOrderly}
 use Rattle.tm_model.specs.Fits.{Fits}
 use Rattle.tm_pair.specs.Views.{ClientView}
 use Rattle.tm_pair.specs.Sides.{IsGoodClient}
-use Rattle.tm_pair.specs.Calls.{Gets}
-use Rattle.tm_client.specs.Requests.{out_requests, bringing, brings_in, IsAccepted, AreHeldBehind}
+use Rattle.tm_pair.specs.Calls.{Publishes, Gets}
+use Rattle.tm_client.specs.Lanes.{out_requests, bringing, IsAccepted, AreHeld}
+use Rattle.tm_client.specs.Clients.{brings}
 
 module _ {V O R T : Type 0} where
-  -- the first of what waits is orderly to send, and the rest is then held as before
-  pub record MayGo (opening : State V O R T) (c : ℕ) (sent b rest : List (Request V O R T)) (got : List (AnswerBatch V O R T)) : Type 0 where
-    pub orderly : IsOrderly opening c sent got b
-    pub rest_held : AreHeldBehind opening c (sent ++ b) got rest
+  -- how many of some answers may bring a trust when they are taken
+  abbrev pub brings_in : List (Answer V O R T) → ℕ
+  brings_in [] = 0
+  brings_in (a ∷ answers) = brings a + brings_in answers
 
   -- what the answers a to the batch b of a side brought
   pub record Brings (opening : State V O R T) (b : List (Request V O R T)) (a : AnswerBatch V O R T) (old new : ClientView V O R T) : Type 0 where
     -- each answer is one to the request of its position, and no work ends that was not launched
     pub fits : AllZip Fits b a.answers.items
+    -- what waits is still held
+    pub held : (waits : List (Request V O R T)) → AreHeld opening old waits → AreHeld opening new waits
     pub ends : launches_in new.sent ≡ 0 → a.completions.items ≡ []
     -- as many answers may bring a trust as requests
     pub bring : brings_in a.answers.items ≡ bringing b
@@ -43,8 +46,15 @@ module _ {V O R T : Type 0} where
         (opening : State V O R T) (view : ClientView V O R T) (b rest : List (Request V O R T)) → IsGoodClient kind opening view
         → view.place < opening.setup.config.clients → launches_in view.sent ≡ 0 → (has_bye view.sent ≡ true → b ++ rest ≡ [])
         → AllByRecursion IsAccepted (b ++ rest) → AllByRecursion (GrantsBelow opening.setup.config.clients) (b ++ rest)
-        → AreHeldBehind opening view.place view.sent view.got (b ++ rest)
-        → MayGo opening view.place view.sent b rest view.got
+        → AreHeld opening view (b ++ rest)
+        → IsOrderly opening view.place view.sent view.got b
+
+    -- where it went, the rest is held behind it
+    abbrev pub RestIsHeld : Type 0
+    RestIsHeld =
+        (opening : State V O R T) (old new : ClientView V O R T) (b rest : List (Request V O R T)) (room : ℕ) → IsGoodClient kind opening old
+        → Publishes b room old new → AreHeld opening old (b ++ rest)
+        → AreHeld opening new rest × ((id : ℕ) → came opening new.place new.sent new.got id ≡ came opening old.place old.sent old.got id)
 
     -- a Bye alone may go where none was sent
     abbrev pub ByesMayGo : Type 0

@@ -1,13 +1,18 @@
 //! Laws of a client's side, for every kind of object.
 //!
 //! Nothing here runs: each function states a law.
-ghost use Rattle.tm_client.specs.SideLaws.{WaitsMayGo, ByesMayGo, CollectsBring, AnswersAreOfEntries, HeldIsLive};
+ghost use Rattle.tm_client.specs.SideLaws.{WaitsMayGo, RestIsHeld, ByesMayGo, CollectsBring, AnswersAreOfEntries, HeldIsLive};
 
 use tm_seq::Entrusted;
 
-/// The first of the requests that wait are orderly to send, and the rest are then held as before.
+/// The first of the requests that wait are orderly to send.
 pub fn waits_may_go<S: Entrusted>()
     ensures { WaitsMayGo S.kind }
+{}
+
+/// Where they were sent, each id that the rest names is still held behind them.
+pub fn rest_is_held<S: Entrusted>()
+    ensures { RestIsHeld S.kind }
 {}
 
 /// A Bye alone is orderly to send where none was sent and nothing was launched.

@@ -1,6 +1,24 @@
-//! What a client's side of a table tells of what the client sent and got.
+//! A client of the trustees: its trusts, its requests that wait, and the answers that came.
 //!
-//! Nothing here runs: each function states a law.
+//! A [`Client`] has a side at each trustee's table. A call as [`Client::apply_then`] accepts a request
+//! and a continuation, or refuses it and hands both back. [`Client::turn`] moves batches to and fro at
+//! one trustee, and [`Client::next`] hands out each continuation with the answer to its own request.
+//! All room is reserved by [`Client::new`]: no other call allocates, and none waits.
 #![tactic(auto)]
 
+mod answers;
+mod asks;
+mod books;
+mod client;
+mod lane;
 mod laws;
+mod taking;
+mod trust;
+mod turn;
+mod turning;
+
+pub use books::Books;
+pub use client::Client;
+pub use lane::Lane;
+pub use answers::{Arrival, Got, Refused, Turn, Why};
+pub use trust::{Hold, Trust};
