@@ -1,0 +1,3 @@
+mod Elements
+mod Accepting
+mod Asked
