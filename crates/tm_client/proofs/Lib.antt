@@ -1,3 +1,6 @@
+pub mod Accepting
+pub mod Asked
+pub mod Bringing
+pub mod Elements
 pub mod Going
 pub mod Living
-pub mod Bringing

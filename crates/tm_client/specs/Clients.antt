@@ -29,6 +29,11 @@ abbrev pub given : ℕ → ℕ → List Trust → ℕ
 given t id [] = 0
 given t id (g ∷ gifts) = is_at t id g.trustee g.name.id + given t id gifts
 
+-- the sum of a number of each element
+abbrev pub total : {X : Type 0} → (X → ℕ) → List X → ℕ
+total f [] = 0
+total f (x ∷ xs) = f x + total f xs
+
 module _ {V O R T : Type 0} where
   -- whether taking an answer may bring a trust: that to an entrust or a reclaim
   abbrev pub brings : Answer V O R T → ℕ
@@ -72,18 +77,15 @@ module _ {V O R T C D : Type 0} (view : D → ClientView V O R T) where
   abbrev pub lane_coming : Lane V C D O R T → ℕ
   lane_coming lane = bringing (unanswered view lane) + out_room (view lane.side).out
 
-  -- so for all lanes; and how many requests count in all of them
+  -- so for all lanes; and how many requests of all lanes were not answered, and count
   abbrev pub lanes_coming : List (Lane V C D O R T) → ℕ
-  lanes_coming [] = 0
-  lanes_coming (lane ∷ lanes) = lane_coming lane + lanes_coming lanes
+  lanes_coming lanes = total lane_coming lanes
 
   abbrev pub lanes_unanswered : List (Lane V C D O R T) → ℕ
-  lanes_unanswered [] = 0
-  lanes_unanswered (lane ∷ lanes) = length (unanswered view lane) + lanes_unanswered lanes
+  lanes_unanswered lanes = total (λ lane. length (unanswered view lane)) lanes
 
   abbrev pub lanes_counting : List (Lane V C D O R T) → ℕ
-  lanes_counting [] = 0
-  lanes_counting (lane ∷ lanes) = lane.counting + lanes_counting lanes
+  lanes_counting lanes = total (λ lane. lane.counting) lanes
 
   -- the trusts that a client has and those that may still come to it, which `TrustsFull` counts
   abbrev pub all_trusts : Books V C D O R T → ℕ
