@@ -73,6 +73,7 @@ module _ {V C D O R T : Type 0} (view : D → ClientView V O R T) where
         let was = is.last (sym h.said ∙ s) in
         let both : true ≡ false = sym was.0 ∙ closes_not in absurd cc;
     launches = rw h.side is.launches;
+    out_accepted = rw h.side is.out_accepted;
     waits = rw h.waits (all-append IsAccepted lane.waits.items (q ∷ []) is.waits (accepted, tt));
     grants = rw h.waits (all-append (GrantsBelow opening.setup.config.clients) lane.waits.items (q ∷ []) is.grants (grant, tt));
     held = rw (h.side, h.waits) (held_behind opening (view lane.side) lane.waits.items q is.held held);

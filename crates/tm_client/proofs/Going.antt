@@ -15,12 +15,12 @@ use Rattle.tm_client.specs.Lanes.{IsAccepted, AreHeld}
 use Rattle.tm_client.specs.SideLaws.{WaitsMayGo, RestIsHeld, ByesMayGo}
 use Rattle.tm_client.proofs.Living.{as_many_came, ended_none}
 
-all_front : {X : Type 0} (P : X → Type 0) (xs ys : List X) → AllByRecursion P (xs ++ ys) → AllByRecursion P xs
+pub all_front : {X : Type 0} (P : X → Type 0) (xs ys : List X) → AllByRecursion P (xs ++ ys) → AllByRecursion P xs
 all_front P [] ys h = tt
 all_front P (x ∷ xs) ys h = (h.0, all_front P xs ys h.1)
 
 module _ {V O R T : Type 0} where
-  accepted_launches : (qs : List (Request V O R T)) → AllByRecursion IsAccepted qs → launches_in qs ≡ 0
+  pub accepted_launches : (qs : List (Request V O R T)) → AllByRecursion IsAccepted qs → launches_in qs ≡ 0
   accepted_launches [] h = refl
   accepted_launches (Launch n task ∷ qs) h = absurd h.0
   accepted_launches (Entrust v ∷ qs) h = accepted_launches qs h.1
@@ -30,7 +30,7 @@ module _ {V O R T : Type 0} where
   accepted_launches (Reclaim n ∷ qs) h = accepted_launches qs h.1
   accepted_launches (Bye ∷ qs) h = absurd h.0
 
-  accepted_no_bye : (qs : List (Request V O R T)) → AllByRecursion IsAccepted qs → has_bye qs ≡ false
+  pub accepted_no_bye : (qs : List (Request V O R T)) → AllByRecursion IsAccepted qs → has_bye qs ≡ false
   accepted_no_bye [] h = refl
   accepted_no_bye (Launch n task ∷ qs) h = absurd h.0
   accepted_no_bye (Entrust v ∷ qs) h = accepted_no_bye qs h.1

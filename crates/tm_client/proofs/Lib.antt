@@ -1,6 +1,9 @@
 pub mod Accepting
+pub mod Arriving
 pub mod Asked
 pub mod Bringing
 pub mod Elements
 pub mod Going
 pub mod Living
+pub mod Receiving
+pub mod Sending

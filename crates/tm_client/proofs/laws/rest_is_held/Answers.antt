@@ -1,3 +1,6 @@
+use Rattle.tm_client.proofs.Sending.{sending_keeps}
+use Rattle.tm_client.proofs.Receiving.{receiving_keeps}
+use Rattle.tm_client.proofs.Arriving.{arrives, none_arrives}
 use Rattle.tm_client.proofs.Going as proof
 use Rattle.tm_client.proofs.laws.rest_is_held.Goals as goal
 
