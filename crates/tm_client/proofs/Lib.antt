@@ -3,7 +3,10 @@ pub mod Arriving
 pub mod Asked
 pub mod Bringing
 pub mod Elements
+pub mod Fronts
 pub mod Going
+pub mod Leaving
 pub mod Living
 pub mod Receiving
+pub mod Seeing
 pub mod Sending

@@ -1,5 +1,6 @@
 pub mod Asking
 pub mod Clients
+pub mod Due
 pub mod Lanes
 pub mod Receiving
 pub mod Sending

@@ -13,7 +13,7 @@ use Rattle.tm_batch.specs.declared.message.AnswerBatch.{AnswerBatch}
 use Rattle.tm_model.specs.State.{State, IsHeld}
 use Rattle.tm_model.specs.Serve.{state_after}
 use Rattle.tm_model.specs.Legal.{IsLegal}
-use Rattle.tm_model.specs.Ran.{ran}
+use Rattle.tm_model.specs.Ran.{ran, answered}
 use Rattle.tm_model.specs.Holds.{has_bye, answers_in}
 use Rattle.tm_model.specs.Batches.{batches}
 use Rattle.tm_model.specs.Fits.{Fits}
@@ -135,7 +135,9 @@ module _ {V O R T C D Table Owner : Type 0} (theory : Theory V O R T Table D Own
   pub record Sees (kind : Kind V O R T) (opening : State V O R T) (t : ℕ) (lane : Lane V C D O R T) (books : Books V C D O R T) : Type 0 where
     pub is_legal : IsLegal kind opening (theory.client_view lane.side).seen
     pub runs : (theory.client_view lane.side).sent ≡ ran (theory.client_view lane.side).place (theory.client_view lane.side).seen ++ out_requests (theory.client_view lane.side).out
-    pub answered : AllZip Fits (ran (theory.client_view lane.side).place (theory.client_view lane.side).seen) (answers_in (theory.client_view lane.side).got)
+    -- each answer that came is that of the entry of its own request in it, and one to such a request
+    pub entries : answers_in (theory.client_view lane.side).got ≡ answered (theory.client_view lane.side).place (theory.client_view lane.side).seen
+    pub fits : AllZip Fits (ran (theory.client_view lane.side).place (theory.client_view lane.side).seen) (answers_in (theory.client_view lane.side).got)
     pub live : (id : ℕ) → has_bye (theory.client_view lane.side).sent ≡ false → 1 ≤ listed t id books.held.items
         → IsHeld (state_after kind opening (theory.client_view lane.side).seen) (theory.client_view lane.side).place id
 

@@ -10,6 +10,7 @@ mod answers;
 mod asks;
 mod books;
 mod client;
+mod due;
 mod lane;
 mod laws;
 mod taking;

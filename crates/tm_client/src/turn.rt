@@ -8,7 +8,8 @@ ghost use Rattle.tm_client.specs.Turns.{HasTurned};
 
 use crate::answers::Turn;
 use crate::client::Client;
-use crate::turning::{arrive, first_of, receive, room_of};
+use crate::due::first_of;
+use crate::turning::{arrive, receive, room_of};
 use tm_batch::{AnswerBatch, Batch, Request};
 use tm_pair::{Collected, FitsBatches, PairTable};
 

@@ -59,26 +59,6 @@ pub(crate) fn receive(
     }
 }
 
-/// A batch of the first of some requests, at most 16, which wait no more.
-pub(crate) fn first_of<S: FitsBatches>(
-    waits: &mut HeapCircularBuffer<Request<S>>,
-    room: u32,
-) -> Batch<S>
-    requires room { room ≤ MOST_ROOM }
-    ensures requests { result.requests.items ≡ take MOST_REQUESTS waits.old.items }
-    ensures room { result.room ≡ room }
-    ensures rest { waits.new.items ≡ drop MOST_REQUESTS waits.old.items }
-    ensures capacity { waits.new.capacity ≡ waits.old.capacity }
-{
-    let mut batch = Batch::new(room);
-    for _ in 0..MOST_REQUESTS {
-        if let Some(request) = waits.pop_front() {
-            let _ = batch.push(request);
-        }
-    }
-    batch
-}
-
 /// As many as are free, at most 16.
 pub(crate) fn room_of(most: u32, held: usize, coming: u32) -> u32
     requires { held + coming ≤ most }

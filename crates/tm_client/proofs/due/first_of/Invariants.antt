@@ -1,5 +1,5 @@
-use Rattle.std.proofs.Common.{◌≡◌, ◌+◌, ◌++◌, ◌<◌, ◌⊎◌, length, drop, take, []}
-use Rattle.tm_client.proofs.turning.first_of.Given as goal
+use Rattle.std.proofs.Common.{◌≡◌, take, drop}
+use Rattle.tm_client.proofs.due.first_of.Given as goal
 
 abbrev pub invariant-loop : goal.invariant-loop
 invariant-loop g l =
