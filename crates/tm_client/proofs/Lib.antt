@@ -1,3 +1,5 @@
 mod Elements
 mod Accepting
 mod Asked
+mod Taken
+mod GiftTaken
