@@ -1,5 +1,5 @@
 -- A client that hands out the first gift.
-use Rattle.std.proofs.Common.{rules, ◌≡◌, ℕ, ◌+◌, ◌<◌, ◌≤◌, List, [], ◌∷◌, ◌++◌, length, refl, sym, ◌∙◌, ap, subst, arith, length-append}
+use Rattle.std.proofs.Common.{rules, ◌≡◌, ℕ, ◌+◌, ◌<◌, ◌≤◌, suc, List, [], ◌∷◌, ◌++◌, length, refl, sym, ◌∙◌, ap, subst, arith, length-append}
 use Rattle.std.specs.Prelude.{slice_get, vec_capacity}
 use Rattle.std.specs.List.{AllByRecursion}
 use Rattle.std.specs.declared.option.Option.TheVariants.{Some}
@@ -15,6 +15,9 @@ use Rattle.tm_client.specs.Clients.{is_at, listed, come_of, entrusted_in, given,
 use Rattle.tm_client.specs.Taking.{hold_of, HasTakenGift}
 use Rattle.tm_client.proofs.Taken.{listed-append, first_rest}
 
+longer_by : {n m : ℕ} → n ≡ suc m → n ≡ 1 + m
+longer_by e = omega arith
+
 module _ {V C D O R T : Type 0} (view : D → ClientView V O R T) where
   module _ (openings : ℕ → State V O R T) (gift : Trust) (old new : Books V C D O R T) (is : IsClient view openings old)
       (a : HasTakenGift gift old new) where
@@ -28,7 +31,7 @@ module _ {V C D O R T : Type 0} (view : D → ClientView V O R T) where
         omega arith
 
     one_less : length old.gifts.items ≡ 1 + length new.gifts.items
-    one_less = ap length a.first.1
+    one_less = let all = ap length a.first.1 in omega arith
 
     parts : ((gift.trustee < length old.lanes.items) × (gift.client ≡ old.number))
         × AllByRecursion (λ g. (g.trustee < length old.lanes.items) × (g.client ≡ old.number)) new.gifts.items
@@ -61,7 +64,7 @@ module _ {V C D O R T : Type 0} (view : D → ClientView V O R T) where
       (openings : ℕ → State V O R T) (books : Books V C D O R T) (gift : Trust) → IsClient view openings books
       → slice_get books.gifts.items 0 ≡ Some gift → (1 ≤ books.coming) × (length books.held.items < vec_capacity books.held)
   has_gift openings books gift is e =
-      let (rest, all) = first_rest view books.gifts.items gift e in
-      let many : length books.gifts.items ≡ 1 + length rest = ap length all in
+      let (rest, all) = first_rest books.gifts.items gift e in
+      let many : length books.gifts.items ≡ 1 + length rest = longer_by (ap length all) in
       let coming : 1 ≤ books.coming = let sum = is.coming in omega arith in
       (coming, let most = is.most in let room = is.held_room in omega arith)

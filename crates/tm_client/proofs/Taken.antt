@@ -1,6 +1,6 @@
 -- A client that hands out the first of what arrived.
-use Rattle.std.proofs.Common.{rules, ◌≡◌, ◌≢◌, ℕ, ◌+◌, ◌<◌, ◌≤◌, ◌==◌, cond, true, false, zero, suc, List, [], ◌∷◌, ◌++◌, length, inl, inr, refl, sym, ◌∙◌, ap, subst, arith, length-append, length-set, eq-eqb, ne_eqb}
-use Rattle.std.specs.Prelude.{slice_get, slice_set, vec_capacity}
+use Rattle.std.proofs.Common.{rules, ◌≡◌, ◌≢◌, ℕ, ◌+◌, ◌<◌, ◌≤◌, ◌==◌, cond, Bool, true, false, zero, suc, List, [], ◌∷◌, ◌++◌, length, inl, inr, refl, sym, ◌∙◌, ap, subst, arith, length-append, length-set, eq-eqb, ne_eqb}
+use Rattle.std.specs.Prelude.{◌-◌, drop, slice_get, slice_set, vec_capacity}
 use Rattle.std.specs.List.{AllByRecursion}
 use Rattle.std.specs.declared.option.Option.TheVariants.{Some}
 use Rattle.std.proofs.lemmas.Option.{slice_get_within}
@@ -19,6 +19,26 @@ use Rattle.tm_client.specs.Lanes.{unanswered, IsLane}
 use Rattle.tm_client.specs.Clients.{is_at, listed, brings, entrusted, come_of, entrusted_in, given, brought_in, IsTakeable, lane_coming, lanes_coming, lanes_unanswered, lanes_counting, IsClient}
 use Rattle.tm_client.specs.Taking.{hold_of, holds_by, CountsLess, HasTaken}
 use Rattle.tm_client.proofs.Elements.{set_cases, total_set}
+
+pub first_rest : {X : Type 0} (xs : List X) (x : X) → slice_get xs 0 ≡ Some x → (rest : List X) × (xs ≡ x ∷ rest)
+first_rest [] x e = absurd cc
+first_rest (y ∷ xs) x e = let is : y ≡ x = cc in (xs, ap (λ z. z ∷ xs) is)
+
+pub first_drop : {X : Type 0} (xs : List X) (x : X) → slice_get xs 0 ≡ Some x → xs ≡ x ∷ drop 1 xs
+first_drop [] x e = absurd cc
+first_drop (y ∷ xs) x e = let is : y ≡ x = cc in ap (λ z. z ∷ xs) is
+
+pub back_again : (n m : ℕ) → m ≤ n → n ≡ (n - m) + m
+back_again n m le = omega arith
+
+abbrev counted : Bool → ℕ
+counted b = cond b 1 0
+
+one_at : (t : ℕ) → counted (t == t) ≡ 1
+one_at t = ap counted (eq-eqb t t refl)
+
+none_at : (t u : ℕ) → t ≢ u → counted (t == u) ≡ 0
+none_at t u other = ap counted (ne_eqb t u other)
 
 pub listed-append : (t id : ℕ) (xs ys : List Hold) → listed t id (xs ++ ys) ≡ listed t id xs + listed t id ys
 listed-append t id [] ys = omega arith
@@ -104,12 +124,12 @@ module _ {V C D O R T : Type 0} (view : D → ClientView V O R T) where
 
     one_here : come_of a.t old.arrived.items ≡ come_of a.t new.arrived.items + 1
     one_here =
-        let one : cond (a.t == a.t) 1 0 ≡ 1 = ap (λ b. cond b 1 0) (eq-eqb a.t a.t refl) in
+        let one : counted (a.t == a.t) ≡ 1 = one_at a.t in
         let all = came_one a.t in omega arith
 
     none_there : (u : ℕ) → u ≢ a.t → come_of u old.arrived.items ≡ come_of u new.arrived.items
     none_there u other =
-        let none : cond (a.t == u) 1 0 ≡ 0 = ap (λ b. cond b 1 0) (ne_eqb a.t u (λ same. other (sym same))) in
+        let none : counted (a.t == u) ≡ 0 = none_at a.t u (λ same. other (sym same)) in
         let all = came_one u in omega arith
 
     becomes_lane : IsLane view (openings a.t) old.number (come_of a.t new.arrived.items) a.becomes
@@ -221,10 +241,6 @@ module _ {V C D O R T : Type 0} (view : D → ClientView V O R T) where
     pub room : length books.held.items + brings x.answer ≤ vec_capacity books.held
     pub counts : (lane : Lane V C D O R T) → slice_get books.lanes.items x.trustee ≡ Some lane → 1 ≤ lane.counting
 
-  pub first_rest : {X : Type 0} (xs : List X) (x : X) → slice_get xs 0 ≡ Some x → (rest : List X) × (xs ≡ x ∷ rest)
-  first_rest [] x e = absurd cc
-  first_rest (y ∷ xs) x e = let is : y ≡ x = cc in (xs, ap (λ z. z ∷ xs) is)
-
   pub is_first :
       (openings : ℕ → State V O R T) (books : Books V C D O R T) (x : Arrival V C O R T) → IsClient view openings books
       → slice_get books.arrived.items 0 ≡ Some x → IsFirst books x
@@ -239,7 +255,7 @@ module _ {V C D O R T : Type 0} (view : D → ClientView V O R T) where
         coming = coming;
         room = let most = is.most in let room = is.held_room in omega arith;
         counts = λ lane there.
-          let one : cond (x.trustee == x.trustee) 1 0 ≡ 1 = ap (λ b. cond b 1 0) (eq-eqb x.trustee x.trustee refl) in
+          let one : counted (x.trustee == x.trustee) ≡ 1 = one_at x.trustee in
           let come : come_of x.trustee books.arrived.items ≡ cond (x.trustee == x.trustee) 1 0 + come_of x.trustee rest = ap (λ xs. come_of x.trustee xs) all in
           let counts = (is.lanes x.trustee lane there).counting in
           omega arith;
