@@ -1,5 +1,5 @@
 -- The elements of a list: what a write at an index leaves, and sums over all of them.
-use Rattle.std.proofs.Common.{◌≡◌, ◌≢◌, ℕ, zero, suc, ◌+◌, ◌*◌, ◌<◌, ◌≤◌, ◌⊎◌, inl, inr, List, [], ◌∷◌, ◌++◌, length, refl, sym, ◌∙◌, ap, arith}
+use Rattle.std.proofs.Common.{◌≡◌, ◌≢◌, ℕ, zero, suc, ◌+◌, ◌*◌, ◌<◌, ◌≤◌, ◌⊎◌, inl, inr, List, [], ◌∷◌, ◌++◌, length, refl, sym, ◌∙◌, ap, subst, arith}
 use Rattle.std.specs.Prelude.{slice_get, slice_set}
 use Rattle.std.specs.List.{AllByRecursion, Contains}
 use Rattle.std.specs.declared.option.Option.TheVariants.{Some}
@@ -61,3 +61,9 @@ module _ {X : Type 0} where
       let rest : total f xs ≤ n * length xs = total_most f n xs (λ i y e. most (suc i) y e) in
       let product : n * suc (length xs) ≡ n + n * length xs = omega arith in
       omega arith
+
+  -- what holds of all elements holds of one that is there
+  pub contained : (P : X → Type 0) (xs : List X) (x : X) → AllByRecursion P xs → Contains xs x → P x
+  contained P [] x all (i, lt, e) = absurd (omega (arith, lt))
+  contained P (y ∷ ys) x all (zero, lt, e) = let is : y ≡ x = e in subst P is all.0
+  contained P (y ∷ ys) x all (suc i, lt, e) = contained P ys x all.1 (i, omega (arith, lt), e)

@@ -4,9 +4,11 @@ pub mod Asked
 pub mod Bringing
 pub mod Elements
 pub mod Fronts
+pub mod GiftTaken
 pub mod Going
 pub mod Leaving
 pub mod Living
 pub mod Receiving
 pub mod Seeing
 pub mod Sending
+pub mod Taken

@@ -259,6 +259,7 @@ module _ {V C D O R T : Type 0} (view : D → ClientView V O R T) (openings : �
         (all-append (λ g. (g.trustee < length old.lanes.items) × (g.client ≡ old.number)) old.gifts.items (gifts_from t old.number a.gifts.items) is.gifts
             (gifts_all t old.number (length old.lanes.items) a.gifts.items within));
     counting = counting_is;
+    limit = rw h.most is.limit;
     held_room = rw (h.held, h.most) is.held_room;
     gifts_room = rw (h.most, h.gifts_room) is.gifts_room;
     arrived_room = rw (h.arrived_room, as_many) is.arrived_room;

@@ -261,6 +261,7 @@ module _ {V C D O R T : Type 0} (kind : Kind V O R T) (view : D → ClientView V
     arrived = rw (h.arrived, as_many) is.arrived;
     gifts = rw (h.gifts, as_many, h.number) is.gifts;
     counting = counting_is;
+    limit = rw h.most is.limit;
     held_room = rw (h.held, h.most) is.held_room;
     gifts_room = rw (h.gifts, h.most) is.gifts_room;
     arrived_room = rw (h.arrived, as_many) is.arrived_room;

@@ -2,7 +2,7 @@
 use Rattle.std.specs.Prelude.{◌≡◌, ◌≢◌, ℕ, ◌+◌, ◌*◌, ◌-◌, ◌<◌, ◌≤◌, ◌==◌, cond, min, List, [], ◌∷◌, ◌++◌, length, slice_get, vec_capacity}
 use Rattle.std.specs.List.{AllByRecursion}
 use Rattle.std.specs.declared.option.Option.TheVariants.{Some}
-use Rattle.tm_batch.specs.declared.limits.TheConstants.{WINDOW, MOST_ROOM}
+use Rattle.tm_batch.specs.declared.limits.TheConstants.{WINDOW, MOST_TRUSTS}
 use Rattle.tm_batch.specs.declared.message.Answer.{Answer}
 use Rattle.tm_batch.specs.declared.message.Answer.TheVariants.{Entrusted, NotEntrusted, Launched, TicketsSpent, Reclaimed, Shared, ByeDone}
 use Rattle.tm_model.specs.State.{State}
@@ -103,6 +103,7 @@ module _ {V O R T C D : Type 0} (view : D → ClientView V O R T) where
     pub held : AllByRecursion (λ h. h.trustee < length books.lanes.items) books.held.items
     pub coming : books.coming ≡ lanes_coming books.lanes.items + brought_in books.arrived.items + length books.gifts.items
     pub most : length books.held.items + books.coming ≤ books.most
+    pub limit : books.most ≤ MOST_TRUSTS
     pub arrived : AllByRecursion (λ a. (a.trustee < length books.lanes.items) × IsTakeable a.answer) books.arrived.items
     pub gifts : AllByRecursion (λ g. (g.trustee < length books.lanes.items) × (g.client ≡ books.number)) books.gifts.items
     -- all room is reserved

@@ -1,5 +1,5 @@
 -- What a client hands out of what came.
-use Rattle.std.specs.Prelude.{◌≡◌, ℕ, ◌+◌, ◌-◌, List, [], ◌∷◌, ◌++◌, length, slice_get, slice_set}
+use Rattle.std.specs.Prelude.{◌≡◌, ℕ, ◌+◌, ◌-◌, List, [], ◌∷◌, ◌++◌, length, slice_get, slice_set, vec_capacity}
 use Rattle.std.specs.declared.option.Option.TheVariants.{Some}
 use Rattle.tm_batch.specs.declared.message.Name.{Name}
 use Rattle.tm_batch.specs.declared.message.Answer.{Answer}
@@ -57,6 +57,7 @@ module _ {V O R T C D : Type 0} where
     pub capacity : new.arrived.capacity ≡ old.arrived.capacity
     pub is_got : IsGot t old.number (length old.held.items) answer got
     pub held : new.held.items ≡ old.held.items ++ holds_by t answer
+    pub held_room : vec_capacity new.held ≡ vec_capacity old.held
     pub coming : old.coming ≡ new.coming + brings answer
     pub of_lane : slice_get old.lanes.items t ≡ Some lane
     pub counts : CountsLess lane becomes
@@ -72,6 +73,7 @@ module _ {V O R T C D : Type 0} where
     pub at : gift.at ≡ length old.held.items
     pub capacity : new.gifts.capacity ≡ old.gifts.capacity
     pub held : new.held.items ≡ old.held.items ++ hold_of gift.trustee gift.name ∷ []
+    pub held_room : vec_capacity new.held ≡ vec_capacity old.held
     pub coming : old.coming ≡ new.coming + 1
     pub lanes : new.lanes ≡ old.lanes
     pub arrived : new.arrived ≡ old.arrived
