@@ -15,8 +15,6 @@ mod lane;
 mod laws;
 mod taking;
 mod trust;
-mod turn;
-mod turning;
 
 pub use books::Books;
 pub use client::Client;
