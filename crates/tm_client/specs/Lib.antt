@@ -2,6 +2,7 @@ pub mod Asking
 pub mod Clients
 pub mod Due
 pub mod Lanes
+pub mod Posting
 pub mod Receiving
 pub mod Sending
 pub mod SideLaws

@@ -13,6 +13,7 @@ mod client;
 mod due;
 mod lane;
 mod laws;
+mod post;
 mod taking;
 mod trust;
 
