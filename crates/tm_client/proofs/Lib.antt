@@ -3,3 +3,5 @@ mod Accepting
 mod Asked
 mod Taken
 mod GiftTaken
+mod Moving
+mod Marked

@@ -11,6 +11,7 @@ mod asks;
 mod books;
 mod client;
 mod lane;
+mod marking;
 mod taking;
 mod trust;
 mod turn;

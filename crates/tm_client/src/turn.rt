@@ -13,39 +13,6 @@ use tm_batch::{AnswerBatch, Batch, Request};
 use tm_pair::{Collected, FitsBatches, PairTable};
 
 impl<S: FitsBatches, C: Drop, P: PairTable<S>> Client<S, C, P> {
-    /// How many requests count at a trustee: those whose answers were not taken.
-    pub fn counting(&self, trustee: u32) -> u32
-        requires { trustee < length self.now.books.lanes.items }
-        ensures { At self.now.books trustee (λ lane. result ≡ lane.counting) }
-    {
-        self.books.lanes[trustee as usize].counting
-    }
-
-    /// The next turn publishes a batch, though it has no request, so that gifts can come.
-    pub fn fetch(&mut self, trustee: u32)
-        requires { trustee < length self.old.books.lanes.items }
-    {
-        let lane = &mut self.books.lanes[trustee as usize];
-        lane.fetching = true;
-    }
-
-    /// No further request is accepted at a trustee; once nothing counts, a turn sends the `Bye`.
-    pub fn close(&mut self, trustee: u32)
-        requires { trustee < length self.old.books.lanes.items }
-    {
-        let lane = &mut self.books.lanes[trustee as usize];
-        lane.closing = true;
-    }
-
-    /// Whether the answer to the `Bye` came.
-    pub fn is_closed(&self, trustee: u32) -> bool
-        requires { trustee < length self.now.books.lanes.items }
-        ensures { At self.now.books trustee (λ lane. IsTrue result ↔ (lane.said ≡ true) × (lane.out ≡ false)) }
-    {
-        let lane = &self.books.lanes[trustee as usize];
-        lane.said && !lane.out
-    }
-
     /// Takes what came of a trustee.
     fn got(&mut self, trustee: u32, answers: AnswerBatch<S>) -> u32 {
         let count = answers.answers.len() + answers.gifts.len() + answers.completions.len();

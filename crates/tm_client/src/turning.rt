@@ -1,5 +1,5 @@
 //! What a turn does with batches.
-ghost use Rattle.std.specs.Prelude.{◌≡◌, ◌+◌, ◌-◌, ◌≤◌, ◌++◌, length, drop, take, min};
+ghost use Rattle.std.specs.Prelude.{◌≡◌, ◌+◌, ◌-◌, ◌<◌, ◌≤◌, [], ◌∷◌, ◌++◌, length, drop, take, min};
 ghost use Rattle.tm_batch.specs.declared.limits.TheConstants.{MOST_REQUESTS, MOST_ROOM};
 ghost use Rattle.tm_client.specs.Turns.{arrivals_of, gifts_from};
 
@@ -9,6 +9,28 @@ use arrayvec::ArrayVec;
 use circular_buffer::HeapCircularBuffer;
 use tm_batch::{Answer, Batch, MOST_REQUESTS, Name, Request};
 use tm_pair::FitsBatches;
+
+/// Lets the first of some continuations, if there is one, arrive with an answer.
+fn arrive_first<S: FitsBatches, C: Drop>(
+    trustee: u32,
+    answer: Answer<S>,
+    afters: &mut HeapCircularBuffer<C>,
+    arrived: &mut HeapCircularBuffer<Arrival<S, C>>,
+)
+    requires room { length arrived.old.items + min 1 (length afters.old.items) ≤ arrived.old.capacity }
+    ensures arrived { arrived.new.items ≡ arrived.old.items ++ arrivals_of trustee afters.old.items (answer ∷ []) }
+    ensures capacity { arrived.new.capacity ≡ arrived.old.capacity }
+    ensures afters { afters.new.items ≡ drop 1 afters.old.items }
+    ensures afters_room { afters.new.capacity ≡ afters.old.capacity }
+{
+    if let Some(after) = afters.pop_front() {
+        let _ = arrived.try_push_back(Arrival {
+            trustee,
+            after,
+            answer,
+        });
+    }
+}
 
 /// Lets each of some continuations arrive with the answer of its position.
 pub(crate) fn arrive<S: FitsBatches, C: Drop>(
@@ -26,13 +48,7 @@ pub(crate) fn arrive<S: FitsBatches, C: Drop>(
     let mut answers = answers;
     while !answers.is_empty() {
         let answer = answers.remove(0);
-        if let Some(after) = afters.pop_front() {
-            let _ = arrived.try_push_back(Arrival {
-                trustee,
-                after,
-                answer,
-            });
-        }
+        arrive_first(trustee, answer, afters, arrived);
     }
 }
 
@@ -59,6 +75,19 @@ pub(crate) fn receive(
     }
 }
 
+/// Moves the first of some requests, if there is one, to the end of a batch.
+fn move_first<S: FitsBatches>(waits: &mut HeapCircularBuffer<Request<S>>, batch: &mut Batch<S>)
+    requires room { length batch.old.requests.items < MOST_REQUESTS }
+    ensures requests { batch.new.requests.items ≡ batch.old.requests.items ++ take 1 waits.old.items }
+    ensures room { batch.new.room ≡ batch.old.room }
+    ensures rest { waits.new.items ≡ drop 1 waits.old.items }
+    ensures capacity { waits.new.capacity ≡ waits.old.capacity }
+{
+    if let Some(request) = waits.pop_front() {
+        let _ = batch.push(request);
+    }
+}
+
 /// A batch of the first of some requests, at most 16, which wait no more.
 pub(crate) fn first_of<S: FitsBatches>(
     waits: &mut HeapCircularBuffer<Request<S>>,
@@ -72,9 +101,7 @@ pub(crate) fn first_of<S: FitsBatches>(
 {
     let mut batch = Batch::new(room);
     for _ in 0..MOST_REQUESTS {
-        if let Some(request) = waits.pop_front() {
-            let _ = batch.push(request);
-        }
+        move_first(waits, &mut batch);
     }
     batch
 }

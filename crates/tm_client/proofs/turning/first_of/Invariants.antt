@@ -1,4 +1,4 @@
-use Rattle.std.proofs.Common.{◌≡◌, ◌+◌, ◌++◌, ◌<◌, ◌⊎◌, length, drop, take, []}
+use Rattle.std.proofs.Common.{◌≡◌, ◌≤◌, length, drop, take}
 use Rattle.tm_client.proofs.turning.first_of.Given as goal
 
 abbrev pub invariant-loop : goal.invariant-loop
@@ -7,3 +7,4 @@ invariant-loop g l =
     × (l.waits.items ≡ drop l.counter l.initial.waits.items)
     × (l.waits.capacity ≡ l.initial.waits.capacity)
     × (l.batch.room ≡ l.room)
+    × (length l.batch.requests.items ≤ l.counter)
