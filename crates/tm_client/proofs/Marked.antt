@@ -1,6 +1,6 @@
 -- A client at which `fetch` or `close` was called.
-use Rattle.std.proofs.Common.{rules, ◌≡◌, ℕ, ◌+◌, ◌<◌, ◌≤◌, Bool, true, List, ◌++◌, length, inl, inr, refl, sym, ◌∙◌, ap, subst, arith, length-set}
-use Rattle.std.specs.Prelude.{slice_get, slice_set}
+use Rattle.std.proofs.Common.{◌≡◌, ℕ, ◌+◌, ◌<◌, Bool, true, ◌++◌, length, inl, inr, refl, sym, ◌∙◌, ap, subst, arith, length-set}
+use Rattle.std.specs.Prelude.{slice_get}
 use Rattle.std.specs.declared.option.Option.TheVariants.{Some}
 use Rattle.tm_model.specs.State.{State}
 use Rattle.tm_model.specs.Holds.{gave, came}
@@ -8,7 +8,7 @@ use Rattle.tm_pair.specs.Views.{ClientView}
 use Rattle.tm_client.specs.declared.lane.Lane.{Lane}
 use Rattle.tm_client.specs.declared.books.Books.{Books}
 use Rattle.tm_client.specs.Lanes.{unanswered, IsLane}
-use Rattle.tm_client.specs.Clients.{listed, come_of, entrusted_in, given, brought_in, lane_coming, lanes_coming, lanes_unanswered, lanes_counting, IsClient}
+use Rattle.tm_client.specs.Clients.{listed, come_of, entrusted_in, given, lane_coming, IsClient}
 use Rattle.tm_client.specs.Marking.{marked, HasMarked}
 use Rattle.tm_client.proofs.Elements.{set_cases, total_set}
 
@@ -51,10 +51,10 @@ module _ {V C D O R T : Type 0} (view : D → ClientView V O R T) where
         → IsLane view (openings u) new.number (come_of u new.arrived.items) lane
     lanes_are u lane e =
         rw (a.rest.number, a.rest.arrived) (
-          elim (set_cases old.lanes.items t u becomes lane (subst (λ xs. slice_get xs u ≡ Some lane) a.lanes e)) [
-            inl (same, it) ↦ rw (same, it) becomes_lane
+        elim (set_cases old.lanes.items t u becomes lane (subst (λ xs. slice_get xs u ≡ Some lane) a.lanes e)) [
+          | inl (same, it) ↦ rw (same, it) becomes_lane
           | inr (other, there) ↦ is.lanes u lane there
-          ]
+        ]
         )
 
     becomes_holds : (id : ℕ)
@@ -67,10 +67,10 @@ module _ {V C D O R T : Type 0} (view : D → ClientView V O R T) where
         ≡ came (openings u) new.number (view lane.side).sent (view lane.side).got id
     holds_are u lane id e =
         rw (a.rest.number, a.rest.arrived, a.rest.held, a.rest.gifts) (
-          elim (set_cases old.lanes.items t u becomes lane (subst (λ xs. slice_get xs u ≡ Some lane) a.lanes e)) [
-            inl (same, it) ↦ rw (same, it) (becomes_holds id)
+        elim (set_cases old.lanes.items t u becomes lane (subst (λ xs. slice_get xs u ≡ Some lane) a.lanes e)) [
+          | inl (same, it) ↦ rw (same, it) (becomes_holds id)
           | inr (other, there) ↦ is.holds u lane id there
-          ]
+        ]
         )
 
     same_coming : lane_coming view becomes ≡ lane_coming view a.lane
@@ -89,23 +89,23 @@ module _ {V C D O R T : Type 0} (view : D → ClientView V O R T) where
       holds = holds_are;
       held = rw (a.rest.held, as_many) is.held;
       coming = rw (a.rest.arrived, a.rest.gifts, a.lanes, a.coming) (
-        let set = total_set (λ lane. lane_coming view lane) old.lanes.items t a.lane becomes a.of_lane in
-        let same = same_coming in
-        let before = is.coming in
-        omega arith
-      );
+          let set = total_set (λ lane. lane_coming view lane) old.lanes.items t a.lane becomes a.of_lane in
+          let same = same_coming in
+          let before = is.coming in
+          omega arith
+          );
       most = rw (a.rest.held, a.rest.most, a.coming) is.most;
       limit = rw a.rest.most is.limit;
       arrived = rw (a.rest.arrived, as_many) is.arrived;
       gifts = rw (a.rest.gifts, as_many, a.rest.number) is.gifts;
       counting = rw (a.rest.arrived, a.lanes) (
-        let set = total_set (λ lane. length (unanswered view lane)) old.lanes.items t a.lane becomes a.of_lane in
-        let counts = total_set (λ lane. lane.counting) old.lanes.items t a.lane becomes a.of_lane in
-        let same = same_length in
-        let equal = same_counting in
-        let before = is.counting in
-        omega arith
-      );
+          let set = total_set (λ lane. length (unanswered view lane)) old.lanes.items t a.lane becomes a.of_lane in
+          let counts = total_set (λ lane. lane.counting) old.lanes.items t a.lane becomes a.of_lane in
+          let same = same_length in
+          let equal = same_counting in
+          let before = is.counting in
+          omega arith
+          );
       held_room = rw (a.rest.held, a.rest.most) is.held_room;
       gifts_room = rw (a.rest.gifts, a.rest.most) is.gifts_room;
       arrived_room = rw (a.rest.arrived, as_many) is.arrived_room;

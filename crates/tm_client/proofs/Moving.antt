@@ -1,5 +1,5 @@
 -- Lists that are moved one element after another.
-use Rattle.std.proofs.Common.{rules, ◌≡◌, ℕ, zero, suc, ◌+◌, ◌≤◌, ◌<◌, List, [], ◌∷◌, ◌++◌, length, min, take, drop, refl, sym, ◌∙◌, ap, subst, arith, append_assoc, append-nil, length-append}
+use Rattle.std.proofs.Common.{◌≡◌, ℕ, zero, suc, ◌+◌, ◌≤◌, ◌<◌, List, [], ◌∷◌, ◌++◌, length, min, take, drop, refl, sym, ◌∙◌, ap, subst, arith, append_assoc, append-nil, length-append}
 use Rattle.std.specs.Prelude.{slice_get, slice_index_or, remove}
 use Rattle.std.specs.declared.option.Option.TheVariants.{None, Some}
 use Rattle.tm_batch.specs.declared.message.Answer.{Answer}
@@ -89,8 +89,8 @@ module _ {V C O R T : Type 0} where
       → arrived ++ arrivals_of t cs answers ≡ all → arrived_new ++ arrivals_of t cs_new rest ≡ all
   arriving t arrived arrived_new all cs cs_new a answers rest is now more e =
       rw (now, more) (
-        append_assoc arrived (arrivals_of t cs (a ∷ [])) (arrivals_of t (drop 1 cs) rest)
-        ∙ ap (λ l. arrived ++ l) (sym (arrivals_first t cs a rest)) ∙ ap (λ xs. arrived ++ arrivals_of t cs xs) (sym is) ∙ e
+      append_assoc arrived (arrivals_of t cs (a ∷ [])) (arrivals_of t (drop 1 cs) rest)
+      ∙ ap (λ l. arrived ++ l) (sym (arrivals_first t cs a rest)) ∙ ap (λ xs. arrived ++ arrivals_of t cs xs) (sym is) ∙ e
       )
 
   pub arriving_room :

@@ -1,5 +1,5 @@
 -- What `fetch` and `close` note at a trustee.
-use Rattle.std.specs.Prelude.{◌≡◌, ℕ, Bool, List, slice_get, slice_set}
+use Rattle.std.specs.Prelude.{◌≡◌, ℕ, Bool, slice_get, slice_set}
 use Rattle.std.specs.declared.option.Option.TheVariants.{Some}
 use Rattle.tm_client.specs.declared.lane.Lane.{Lane}
 use Rattle.tm_client.specs.declared.books.Books.{Books}

@@ -14,11 +14,10 @@ mod lane;
 mod marking;
 mod taking;
 mod trust;
-mod turn;
 mod turning;
 
+pub use answers::{Arrival, Got, Refused, Turn, Why};
 pub use books::Books;
 pub use client::Client;
 pub use lane::Lane;
-pub use answers::{Arrival, Got, Refused, Turn, Why};
 pub use trust::{Hold, Trust};

@@ -11,20 +11,19 @@ pub loop-answers-preserved : goal.loop-answers-preserved
 loop-answers-preserved g c =
     let some : 0 < length c.loop-answers.answers.items = search rules in
     let all : c.loop-answers.answers.items ≡ c.remove-answer.result ∷ c.remove-answer.new.self.items =
-        moving.removed c.loop-answers.answers.items c.remove-answer.new.self.items c.remove-answer.result some c.remove-answer.ensures.value
-        c.remove-answer.ensures.items in
+    moving.removed c.loop-answers.answers.items c.remove-answer.new.self.items c.remove-answer.result some c.remove-answer.ensures.value
+    c.remove-answer.ensures.items in
     let (arrives, drops, room, capacity, afters_room) = c.loop-answers.invariant in
-    let more = c.arrive_first.ensures in
-    (
+    let more = c.arrive_first.ensures in (
       moving.arriving c.args.trustee c.loop-answers.arrived.items c.arrive_first.new.arrived.items _ c.loop-answers.afters.items c.arrive_first.new.afters.items
-      c.remove-answer.result c.loop-answers.answers.items c.remove-answer.new.self.items all more.arrived more.afters arrives,
+          c.remove-answer.result c.loop-answers.answers.items c.remove-answer.new.self.items all more.arrived more.afters arrives,
       rw more.afters (moving.drop_first (length c.remove-answer.new.self.items) c.loop-answers.afters.items)
-      ∙ ap (λ xs. drop (length xs) c.loop-answers.afters.items) (sym all) ∙ drops,
+          ∙ ap (λ xs. drop (length xs) c.loop-answers.afters.items) (sym all) ∙ drops,
       rw more.capacity (
-        moving.arriving_room c.args.trustee c.loop-answers.arrived.capacity c.loop-answers.arrived.items c.arrive_first.new.arrived.items
-        c.loop-answers.afters.items c.arrive_first.new.afters.items c.remove-answer.result c.loop-answers.answers.items c.remove-answer.new.self.items all
-        more.arrived more.afters room
-      ),
+          moving.arriving_room c.args.trustee c.loop-answers.arrived.capacity c.loop-answers.arrived.items c.arrive_first.new.arrived.items
+          c.loop-answers.afters.items c.arrive_first.new.afters.items c.remove-answer.result c.loop-answers.answers.items c.remove-answer.new.self.items all
+          more.arrived more.afters room
+          ),
       more.capacity ∙ capacity,
       more.afters_room ∙ afters_room,
     )
