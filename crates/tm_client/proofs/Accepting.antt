@@ -1,6 +1,5 @@
 -- A lane that accepts a request.
-use Rattle.std.proofs.Common.{rules, ◌≡◌, ℕ, ◌+◌, ◌<◌, ◌≤◌, true, false, List, [], ◌∷◌, ◌++◌, length, inl, inr, refl, sym, ◌∙◌, ap, subst, arith, append_assoc, length-append}
-use Rattle.std.specs.List.{AllByRecursion}
+use Rattle.std.proofs.Common.{◌≡◌, ℕ, ◌+◌, ◌<◌, true, false, List, [], ◌∷◌, ◌++◌, length, inl, inr, sym, ◌∙◌, ap, subst, arith, append_assoc, length-append}
 use Rattle.tm_batch.specs.declared.limits.TheConstants.{WINDOW}
 use Rattle.tm_batch.specs.declared.message.Request.{Request}
 use Rattle.tm_batch.specs.declared.message.Request.TheVariants.{Entrust, Apply, Launch, Grant, Release, Reclaim, Bye}
@@ -34,10 +33,10 @@ module _ {V O R T : Type 0} where
       → ((id : ℕ) → Names q id → gave id (side.sent ++ waits) < came opening side.place side.sent side.got id)
       → AreHeld opening side (waits ++ q ∷ [])
   held_behind opening side waits q are one before after x id e names = elim (last_split waits before after q x e) [
-      inl (mid, p) ↦ are before mid x id p names
+    | inl (mid, p) ↦ are before mid x id p names
     | inr (p, is) ↦
         subst (λ ws. gave id (side.sent ++ ws) < came opening side.place side.sent side.got id) (sym p) (one id (subst (λ y. Names y id) is names))
-    ]
+  ]
 
 module _ {V C D O R T : Type 0} (view : D → ClientView V O R T) where
   -- one request more is unanswered

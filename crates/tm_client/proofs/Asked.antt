@@ -1,7 +1,7 @@
 -- A client that accepts a request.
-use Rattle.std.proofs.Common.{rules, ◌≡◌, ◌≢◌, ℕ, ◌+◌, ◌<◌, ◌≤◌, true, false, List, [], ◌∷◌, ◌++◌, length, inl, inr, refl, sym, ◌∙◌, ap, subst, arith, append_assoc, length-append, length-set, eq-eqb, zero, suc}
-use Rattle.std.specs.Prelude.{slice_get, slice_set, IsSomeAnd}
-use Rattle.std.specs.List.{AllByRecursion, Contains}
+use Rattle.std.proofs.Common.{◌≡◌, ℕ, ◌+◌, ◌<◌, ◌≤◌, false, List, [], ◌∷◌, ◌++◌, length, inl, inr, refl, sym, ◌∙◌, ap, subst, arith, append_assoc, length-append, length-set, eq-eqb, zero, suc}
+use Rattle.std.specs.Prelude.{slice_get, IsSomeAnd}
+use Rattle.std.specs.List.{Contains}
 use Rattle.std.specs.declared.option.Option.TheVariants.{Some}
 use Rattle.std.proofs.lemmas.Option.{slice_get_within}
 use Rattle.tm_batch.specs.declared.limits.TheConstants.{WINDOW}
@@ -17,7 +17,7 @@ use Rattle.tm_client.specs.declared.trust.Hold.{Hold}
 use Rattle.tm_client.specs.declared.trust.Trust.{Trust}
 use Rattle.tm_client.specs.declared.books.Books.{Books}
 use Rattle.tm_client.specs.Lanes.{asks_in, out_requests, out_room, bringing, IsAccepted, HasAccepted, unanswered, IsLane}
-use Rattle.tm_client.specs.Clients.{is_at, listed, come_of, entrusted_in, given, brought_in, total, lane_coming, lanes_coming, lanes_unanswered, lanes_counting, IsClient}
+use Rattle.tm_client.specs.Clients.{is_at, listed, come_of, entrusted_in, given, brought_in, lane_coming, lanes_coming, lanes_unanswered, lanes_counting, IsClient}
 use Rattle.tm_client.specs.Asking.{At, IsOpen, HasRoom, MayApply, MayGrant, MayEntrust, HasAsked}
 use Rattle.tm_client.proofs.Elements.{set_cases, element_at, same_element, total_set, contained}
 use Rattle.tm_core.proofs.Tallies.{gave-append}
@@ -160,18 +160,18 @@ module _ {V C D O R T : Type 0} (view : D → ClientView V O R T) where
         → IsLane view (openings u) new.number (come_of u new.arrived.items) lane
     lanes_are u lane e =
         rw (a.rest.number, a.rest.arrived) (
-          elim (set_cases old.lanes.items t u a.becomes lane (subst (λ xs. slice_get xs u ≡ Some lane) a.lanes e)) [
-            inl (same, becomes) ↦ rw (same, becomes) becomes_lane
+        elim (set_cases old.lanes.items t u a.becomes lane (subst (λ xs. slice_get xs u ≡ Some lane) a.lanes e)) [
+          | inl (same, becomes) ↦ rw (same, becomes) becomes_lane
           | inr (other, there) ↦ is.lanes u lane there
-          ]
+        ]
         )
 
     gave_more : (id : ℕ) → gave id ((view a.becomes.side).sent ++ a.becomes.waits.items) ≡ gave id ((view a.lane.side).sent ++ a.lane.waits.items)
     gave_more id =
         rw (a.accepts.side, a.accepts.waits) (
-          ap (λ qs. gave id qs) (sym (append_assoc (view a.lane.side).sent a.lane.waits.items (q ∷ [])))
-          ∙ gave-append id ((view a.lane.side).sent ++ a.lane.waits.items) (q ∷ [])
-          ∙ (let none = may.none id in omega arith)
+        ap (λ qs. gave id qs) (sym (append_assoc (view a.lane.side).sent a.lane.waits.items (q ∷ [])))
+        ∙ gave-append id ((view a.lane.side).sent ++ a.lane.waits.items) (q ∷ [])
+        ∙ (let none = may.none id in omega arith)
         )
 
     becomes_holds : (id : ℕ)
@@ -184,32 +184,32 @@ module _ {V C D O R T : Type 0} (view : D → ClientView V O R T) where
         ≡ came (openings u) new.number (view lane.side).sent (view lane.side).got id
     holds_are u lane id e =
         rw (a.rest.number, a.rest.arrived, a.rest.held, a.rest.gifts) (
-          elim (set_cases old.lanes.items t u a.becomes lane (subst (λ xs. slice_get xs u ≡ Some lane) a.lanes e)) [
-            inl (same, becomes) ↦ rw (same, becomes) (becomes_holds id)
+        elim (set_cases old.lanes.items t u a.becomes lane (subst (λ xs. slice_get xs u ≡ Some lane) a.lanes e)) [
+          | inl (same, becomes) ↦ rw (same, becomes) (becomes_holds id)
           | inr (other, there) ↦ is.holds u lane id there
-          ]
+        ]
         )
 
     coming_is : new.coming ≡ lanes_coming view new.lanes.items + brought_in new.arrived.items + length new.gifts.items
     coming_is =
         rw (a.rest.arrived, a.rest.gifts, a.lanes) (
-          let set = total_set (λ lane. lane_coming view lane) old.lanes.items t a.lane a.becomes a.of_lane in
-          let one = coming_more a.lane a.becomes q after a.accepts in
-          let before = is.coming in
-          let now = a.coming in
-          let by = may.by in
-          omega arith
+        let set = total_set (λ lane. lane_coming view lane) old.lanes.items t a.lane a.becomes a.of_lane in
+        let one = coming_more a.lane a.becomes q after a.accepts in
+        let before = is.coming in
+        let now = a.coming in
+        let by = may.by in
+        omega arith
         )
 
     counting_is : length new.arrived.items + lanes_unanswered view new.lanes.items ≡ lanes_counting view new.lanes.items
     counting_is =
         rw (a.rest.arrived, a.lanes) (
-          let set = total_set (λ lane. length (unanswered view lane)) old.lanes.items t a.lane a.becomes a.of_lane in
-          let counts = total_set (λ lane. lane.counting) old.lanes.items t a.lane a.becomes a.of_lane in
-          let longer = ap length (unanswered_more view a.lane a.becomes q after a.accepts) ∙ length-append (unanswered view a.lane) (q ∷ []) in
-          let one = a.accepts.counting in
-          let before = is.counting in
-          omega arith
+        let set = total_set (λ lane. length (unanswered view lane)) old.lanes.items t a.lane a.becomes a.of_lane in
+        let counts = total_set (λ lane. lane.counting) old.lanes.items t a.lane a.becomes a.of_lane in
+        let longer = ap length (unanswered_more view a.lane a.becomes q after a.accepts) ∙ length-append (unanswered view a.lane) (q ∷ []) in
+        let one = a.accepts.counting in
+        let before = is.counting in
+        omega arith
         )
 
     pub asking_keeps : IsClient view openings new

@@ -1,17 +1,14 @@
 -- A client that hands out the first gift.
-use Rattle.std.proofs.Common.{rules, ◌≡◌, ℕ, ◌+◌, ◌<◌, ◌≤◌, suc, List, [], ◌∷◌, ◌++◌, length, refl, sym, ◌∙◌, ap, subst, arith, length-append}
+use Rattle.std.proofs.Common.{◌≡◌, ℕ, ◌+◌, ◌<◌, ◌≤◌, suc, [], ◌∷◌, length, ◌∙◌, ap, subst, arith, length-append}
 use Rattle.std.specs.Prelude.{slice_get, vec_capacity}
 use Rattle.std.specs.List.{AllByRecursion}
 use Rattle.std.specs.declared.option.Option.TheVariants.{Some}
 use Rattle.tm_model.specs.State.{State}
-use Rattle.tm_model.specs.Holds.{gave, came}
 use Rattle.tm_core.proofs.CallerLemmas.{all-append}
 use Rattle.tm_pair.specs.Views.{ClientView}
-use Rattle.tm_client.specs.declared.lane.Lane.{Lane}
 use Rattle.tm_client.specs.declared.trust.Trust.{Trust}
 use Rattle.tm_client.specs.declared.books.Books.{Books}
-use Rattle.tm_client.specs.Lanes.{IsLane}
-use Rattle.tm_client.specs.Clients.{is_at, listed, come_of, entrusted_in, given, brought_in, lanes_coming, IsClient}
+use Rattle.tm_client.specs.Clients.{listed, entrusted_in, given, IsClient}
 use Rattle.tm_client.specs.Taking.{hold_of, HasTakenGift}
 use Rattle.tm_client.proofs.Taken.{listed-append, first_rest}
 
@@ -45,11 +42,11 @@ module _ {V C D O R T : Type 0} (view : D → ClientView V O R T) where
       held = rw (a.held, a.lanes) (all-append (λ h. h.trustee < length old.lanes.items) old.held.items (hold_of gift.trustee gift.name ∷ []) is.held (parts.0.0, tt));
       coming = rw (a.lanes, a.arrived) (let before = is.coming in let now = a.coming in let less = one_less in omega arith);
       most = rw a.most (
-        let most = is.most in
-        let now = a.coming in
-        let all = ap length a.held ∙ length-append old.held.items (hold_of gift.trustee gift.name ∷ []) in
-        omega arith
-      );
+          let most = is.most in
+          let now = a.coming in
+          let all = ap length a.held ∙ length-append old.held.items (hold_of gift.trustee gift.name ∷ []) in
+          omega arith
+          );
       limit = rw a.most is.limit;
       arrived = rw (a.lanes, a.arrived) is.arrived;
       gifts = rw (a.lanes, a.number) parts.1;

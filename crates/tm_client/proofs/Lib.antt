@@ -8,6 +8,8 @@ pub mod GiftTaken
 pub mod Going
 pub mod Leaving
 pub mod Living
+pub mod Marked
+pub mod Moving
 pub mod Receiving
 pub mod Seeing
 pub mod Sending

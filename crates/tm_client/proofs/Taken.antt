@@ -1,6 +1,6 @@
 -- A client that hands out the first of what arrived.
-use Rattle.std.proofs.Common.{rules, ◌≡◌, ◌≢◌, ℕ, ◌+◌, ◌<◌, ◌≤◌, ◌==◌, cond, Bool, true, false, zero, suc, List, [], ◌∷◌, ◌++◌, length, inl, inr, refl, sym, ◌∙◌, ap, subst, arith, length-append, length-set, eq-eqb, ne_eqb}
-use Rattle.std.specs.Prelude.{◌-◌, drop, slice_get, slice_set, vec_capacity}
+use Rattle.std.proofs.Common.{◌≡◌, ◌≢◌, ℕ, ◌+◌, ◌<◌, ◌≤◌, ◌==◌, cond, Bool, List, [], ◌∷◌, ◌++◌, length, inl, inr, refl, sym, ◌∙◌, ap, subst, arith, length-append, length-set, eq-eqb, ne_eqb}
+use Rattle.std.specs.Prelude.{◌-◌, drop, slice_get, vec_capacity}
 use Rattle.std.specs.List.{AllByRecursion}
 use Rattle.std.specs.declared.option.Option.TheVariants.{Some}
 use Rattle.std.proofs.lemmas.Option.{slice_get_within}
@@ -16,8 +16,8 @@ use Rattle.tm_client.specs.declared.answers.Arrival.{Arrival}
 use Rattle.tm_client.specs.declared.answers.Got.{Got}
 use Rattle.tm_client.specs.declared.books.Books.{Books}
 use Rattle.tm_client.specs.Lanes.{unanswered, IsLane}
-use Rattle.tm_client.specs.Clients.{is_at, listed, brings, entrusted, come_of, entrusted_in, given, brought_in, IsTakeable, lane_coming, lanes_coming, lanes_unanswered, lanes_counting, IsClient}
-use Rattle.tm_client.specs.Taking.{hold_of, holds_by, CountsLess, HasTaken}
+use Rattle.tm_client.specs.Clients.{listed, brings, entrusted, come_of, entrusted_in, given, brought_in, IsTakeable, lane_coming, lanes_coming, lanes_unanswered, lanes_counting, IsClient}
+use Rattle.tm_client.specs.Taking.{holds_by, CountsLess, HasTaken}
 use Rattle.tm_client.proofs.Elements.{set_cases, total_set}
 
 pub first_rest : {X : Type 0} (xs : List X) (x : X) → slice_get xs 0 ≡ Some x → (rest : List X) × (xs ≡ x ∷ rest)
@@ -142,10 +142,10 @@ module _ {V C D O R T : Type 0} (view : D → ClientView V O R T) where
         → IsLane view (openings u) new.number (come_of u new.arrived.items) lane
     lanes_are u lane e =
         rw a.number (
-          elim (set_cases old.lanes.items a.t u a.becomes lane (subst (λ xs. slice_get xs u ≡ Some lane) a.lanes e)) [
-            inl (same, becomes) ↦ rw (same, becomes) becomes_lane
+        elim (set_cases old.lanes.items a.t u a.becomes lane (subst (λ xs. slice_get xs u ≡ Some lane) a.lanes e)) [
+          | inl (same, becomes) ↦ rw (same, becomes) becomes_lane
           | inr (other, there) ↦ subst (λ n. IsLane view (openings u) old.number n lane) (none_there u other) (is.lanes u lane there)
-          ]
+        ]
         )
 
     moved : (u id : ℕ)
@@ -171,10 +171,10 @@ module _ {V C D O R T : Type 0} (view : D → ClientView V O R T) where
         ≡ came (openings u) new.number (view lane.side).sent (view lane.side).got id
     holds_are u lane id e =
         rw a.number (
-          elim (set_cases old.lanes.items a.t u a.becomes lane (subst (λ xs. slice_get xs u ≡ Some lane) a.lanes e)) [
-            inl (same, becomes) ↦ rw (same, becomes) (becomes_holds id)
+        elim (set_cases old.lanes.items a.t u a.becomes lane (subst (λ xs. slice_get xs u ≡ Some lane) a.lanes e)) [
+          | inl (same, becomes) ↦ rw (same, becomes) (becomes_holds id)
           | inr (other, there) ↦ rw (moved u id) (is.holds u lane id there)
-          ]
+        ]
         )
 
     same_coming : lane_coming view a.becomes ≡ lane_coming view a.lane
@@ -186,24 +186,24 @@ module _ {V C D O R T : Type 0} (view : D → ClientView V O R T) where
     coming_is : new.coming ≡ lanes_coming view new.lanes.items + brought_in new.arrived.items + length new.gifts.items
     coming_is =
         rw (a.gifts, a.lanes) (
-          let set = total_set (λ lane. lane_coming view lane) old.lanes.items a.t a.lane a.becomes a.of_lane in
-          let same = same_coming in
-          let all = ap (λ xs. brought_in xs) a.first in
-          let before = is.coming in
-          let now = a.coming in
-          omega arith
+        let set = total_set (λ lane. lane_coming view lane) old.lanes.items a.t a.lane a.becomes a.of_lane in
+        let same = same_coming in
+        let all = ap (λ xs. brought_in xs) a.first in
+        let before = is.coming in
+        let now = a.coming in
+        omega arith
         )
 
     counting_is : length new.arrived.items + lanes_unanswered view new.lanes.items ≡ lanes_counting view new.lanes.items
     counting_is =
         rw a.lanes (
-          let set = total_set (λ lane. length (unanswered view lane)) old.lanes.items a.t a.lane a.becomes a.of_lane in
-          let counts = total_set (λ lane. lane.counting) old.lanes.items a.t a.lane a.becomes a.of_lane in
-          let same = same_length in
-          let one = a.counts.counting in
-          let all = ap length a.first in
-          let before = is.counting in
-          omega arith
+        let set = total_set (λ lane. length (unanswered view lane)) old.lanes.items a.t a.lane a.becomes a.of_lane in
+        let counts = total_set (λ lane. lane.counting) old.lanes.items a.t a.lane a.becomes a.of_lane in
+        let same = same_length in
+        let one = a.counts.counting in
+        let all = ap length a.first in
+        let before = is.counting in
+        omega arith
         )
 
     most_is : length new.held.items + new.coming ≤ old.most
@@ -256,8 +256,8 @@ module _ {V C D O R T : Type 0} (view : D → ClientView V O R T) where
         coming = coming;
         room = let most = is.most in let room = is.held_room in omega arith;
         counts = λ lane there.
-          let one : counted (x.trustee == x.trustee) ≡ 1 = one_at x.trustee in
-          let come : come_of x.trustee books.arrived.items ≡ cond (x.trustee == x.trustee) 1 0 + come_of x.trustee rest = ap (λ xs. come_of x.trustee xs) all in
-          let counts = (is.lanes x.trustee lane there).counting in
-          omega arith;
+            let one : counted (x.trustee == x.trustee) ≡ 1 = one_at x.trustee in
+            let come : come_of x.trustee books.arrived.items ≡ cond (x.trustee == x.trustee) 1 0 + come_of x.trustee rest = ap (λ xs. come_of x.trustee xs) all in
+            let counts = (is.lanes x.trustee lane there).counting in
+            omega arith;
       }

@@ -1,11 +1,11 @@
 -- What a client keeps for one trustee, and what holds of it.
-use Rattle.std.specs.Prelude.{◌≡◌, ◌≢◌, ℕ, ◌+◌, ◌<◌, ◌≤◌, Bool, true, false, List, [], ◌∷◌, ◌++◌, length}
+use Rattle.std.specs.Prelude.{◌≡◌, ℕ, ◌+◌, ◌<◌, ◌≤◌, Bool, true, false, List, [], ◌∷◌, ◌++◌, length}
 use Rattle.std.specs.List.{AllByRecursion}
 use Rattle.std.specs.declared.option.Option.{Option}
 use Rattle.std.specs.declared.option.Option.TheVariants.{None, Some}
 use Rattle.tm_batch.specs.declared.limits.TheConstants.{WINDOW}
 use Rattle.tm_batch.specs.declared.message.Request.{Request}
-use Rattle.tm_batch.specs.declared.message.Request.TheVariants.{Entrust, Apply, Launch, Grant, Release, Reclaim, Bye}
+use Rattle.tm_batch.specs.declared.message.Request.TheVariants.{Entrust, Launch, Reclaim, Bye}
 use Rattle.tm_model.specs.State.{State}
 use Rattle.tm_model.specs.Holds.{Names, has_bye, launches_in, gave, came}
 use Rattle.tm_model.specs.Orderly.{GrantsBelow}

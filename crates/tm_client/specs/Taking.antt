@@ -1,5 +1,5 @@
 -- What a client hands out of what came.
-use Rattle.std.specs.Prelude.{◌≡◌, ℕ, ◌+◌, ◌-◌, List, [], ◌∷◌, ◌++◌, length, slice_get, slice_set, vec_capacity}
+use Rattle.std.specs.Prelude.{◌≡◌, ℕ, ◌+◌, List, [], ◌∷◌, ◌++◌, length, slice_get, slice_set, vec_capacity}
 use Rattle.std.specs.declared.option.Option.TheVariants.{Some}
 use Rattle.tm_batch.specs.declared.message.Name.{Name}
 use Rattle.tm_batch.specs.declared.message.Answer.{Answer}
@@ -7,7 +7,6 @@ use Rattle.tm_batch.specs.declared.message.Answer.TheVariants.{Entrusted, NotEnt
 use Rattle.tm_client.specs.declared.lane.Lane.{Lane}
 use Rattle.tm_client.specs.declared.trust.Hold.{Hold}
 use Rattle.tm_client.specs.declared.trust.Trust.{Trust}
-use Rattle.tm_client.specs.declared.answers.Arrival.{Arrival}
 use Rattle.tm_client.specs.declared.answers.Got.{Got}
 use Rattle.tm_client.specs.declared.answers.Got.TheVariants.{Entrusted as TrustOf, NotEntrusted as Back, Replied as ReplyOf, Granted as IsGranted, Gone as IsGone, GiftsFull as AreFull, Released as IsReleased}
 use Rattle.tm_client.specs.declared.books.Books.{Books}

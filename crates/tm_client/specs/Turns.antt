@@ -1,5 +1,5 @@
 -- What a turn of a client does.
-use Rattle.std.specs.Prelude.{◌≡◌, ◌≢◌, ℕ, ◌+◌, ◌-◌, ◌<◌, ◌≤◌, ◌⊎◌, Bool, true, false, min, List, [], ◌∷◌, ◌++◌, length, map, take, drop, slice_get, slice_set}
+use Rattle.std.specs.Prelude.{◌≡◌, ◌≢◌, ℕ, ◌+◌, ◌-◌, ◌≤◌, ◌⊎◌, true, false, min, List, [], ◌∷◌, ◌++◌, length, map, take, drop, slice_get, slice_set}
 use Rattle.std.specs.List.{AllZip}
 use Rattle.std.specs.declared.option.Option.TheVariants.{None, Some}
 use Rattle.tm_seq.specs.Kind.{Kind}
@@ -15,9 +15,7 @@ use Rattle.tm_model.specs.Serve.{state_after}
 use Rattle.tm_model.specs.Legal.{IsLegal}
 use Rattle.tm_model.specs.Ran.{ran, answered}
 use Rattle.tm_model.specs.Holds.{has_bye, answers_in}
-use Rattle.tm_model.specs.Batches.{batches}
 use Rattle.tm_model.specs.Fits.{Fits}
-use Rattle.tm_pair.specs.Views.{BatchView, ClientView}
 use Rattle.tm_pair.specs.Calls.{Publishes, IsPending, Gets}
 use Rattle.tm_pair.specs.Theory.{Theory}
 use Rattle.tm_pair.specs.declared.moves.Move.TheVariants.{Publish, Collect}

@@ -138,7 +138,12 @@ impl<S: FitsBatches, C: Drop, P: PairTable<S>> Client<S, C, P> {
     /// Asks the trustee of a trust to run an operation on the object. The continuation comes back with the reply.
     /// Refused where the client does not hold the trust, where `close` was called for the trustee, or where 64
     /// requests of the trustee count, in this order.
-    pub fn apply_then(&mut self, trust: &Trust, op: S::Op, after: C) -> Result<(), Refused<(S::Op, C)>>
+    pub fn apply_then(
+        &mut self,
+        trust: &Trust,
+        op: S::Op,
+        after: C,
+    ) -> Result<(), Refused<(S::Op, C)>>
         requires client { (openings : ℕ → State S S.Op S.Reply S.Task) × IsClient P.theory.client_view openings self.old.books }
         ensures may { OnOk result (MayApply self.old.books trust.now) }
         ensures asked { OnOk result (HasAsked trust.now.trustee (Apply trust.now.name op) after 0 self.old.books self.new.books) }

@@ -32,7 +32,13 @@ fn hold(held: &mut Vec<Hold>, client: u32, trustee: u32, name: Name) -> Trust
 }
 
 /// What is handed out for an answer. A trust that it brings is put into the client's list, and fewer may come then.
-fn got_of<S: FitsBatches>(held: &mut Vec<Hold>, coming: &mut u32, client: u32, trustee: u32, answer: Answer<S>) -> Got<S>
+fn got_of<S: FitsBatches>(
+    held: &mut Vec<Hold>,
+    coming: &mut u32,
+    client: u32,
+    trustee: u32,
+    answer: Answer<S>,
+) -> Got<S>
     requires takeable { IsTakeable answer }
     requires coming { brings answer ≤ coming.old }
     requires room { length held.old.items + brings answer ≤ vec_capacity held.old }

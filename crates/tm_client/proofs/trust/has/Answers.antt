@@ -1,4 +1,4 @@
-use Rattle.std.proofs.Common.{rules, IsTrue}
+use Rattle.std.proofs.Common.{rules}
 use Rattle.tm_client.proofs.trust.has.Goals as goal
 
 pub returns-then-eq : goal.returns-then-eq

@@ -1,6 +1,4 @@
-use Rattle.std.proofs.Common.{rules, ◌≡◌, ◌<◌, length, refl, arith}
-use Rattle.std.specs.Prelude.{slice_get}
-use Rattle.std.specs.declared.option.Option.TheVariants.{Some}
+use Rattle.std.proofs.Common.{length, refl, arith}
 use Rattle.std.proofs.lemmas.Option.{slice_get_read}
 use Rattle.tm_client.proofs.Asked as asked
 use Rattle.tm_client.proofs.client.Client.ask.Goals as goal

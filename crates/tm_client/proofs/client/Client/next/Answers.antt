@@ -11,8 +11,8 @@ overflow_sub-index_mut g c =
     let e : slice_get c.args.self.now.books.arrived.items 0 ≡ Some c.in-Some.arrival = search rules in
     let one = taken.is_first g.P.PairTable.theory.client_view openings c.args.self.now.books c.in-Some.arrival is e in
     let there =
-        slice_get_read c.args.self.now.books.lanes.items (length c.args.self.now.books.lanes.items) c.in-Some.arrival.trustee c.index_mut.result.now refl one.within
-        c.index_mut.ensures.value in
+    slice_get_read c.args.self.now.books.lanes.items (length c.args.self.now.books.lanes.items) c.in-Some.arrival.trustee c.index_mut.result.now refl one.within
+    c.index_mut.ensures.value in
     one.counts c.index_mut.result.now there
 
 pub returns-clause-next : goal.returns-clause-next
@@ -21,8 +21,8 @@ returns-clause-next g c =
     let e : slice_get c.args.self.now.books.arrived.items 0 ≡ Some c.in-Some.arrival = search rules in
     let one = taken.is_first g.P.PairTable.theory.client_view openings c.args.self.now.books c.in-Some.arrival is e in
     let there =
-        slice_get_read c.args.self.now.books.lanes.items (length c.args.self.now.books.lanes.items) c.in-Some.arrival.trustee c.index_mut.result.now refl one.within
-        c.index_mut.ensures.value in
+    slice_get_read c.args.self.now.books.lanes.items (length c.args.self.now.books.lanes.items) c.in-Some.arrival.trustee c.index_mut.result.now refl one.within
+    c.index_mut.ensures.value in
     record {
       answer = c.in-Some.arrival.answer;
       t = c.in-Some.arrival.trustee;
@@ -58,8 +58,8 @@ returns-clause-client g c = λ openings is.
     let e : slice_get c.args.self.now.books.arrived.items 0 ≡ Some c.in-Some.arrival = search rules in
     let one = taken.is_first g.P.PairTable.theory.client_view openings c.args.self.now.books c.in-Some.arrival is e in
     let there =
-        slice_get_read c.args.self.now.books.lanes.items (length c.args.self.now.books.lanes.items) c.in-Some.arrival.trustee c.index_mut.result.now refl one.within
-        c.index_mut.ensures.value in
+    slice_get_read c.args.self.now.books.lanes.items (length c.args.self.now.books.lanes.items) c.in-Some.arrival.trustee c.index_mut.result.now refl one.within
+    c.index_mut.ensures.value in
     taken.taking_keeps g.P.PairTable.theory.client_view openings c.in-Some.arrival.after c.got_of-got.result c.args.self.now.books _ is (record {
       answer = c.in-Some.arrival.answer;
       t = c.in-Some.arrival.trustee;
@@ -89,4 +89,3 @@ returns-clause-client g c = λ openings is.
       clients = refl;
       most = refl;
     })
-

@@ -39,4 +39,3 @@ returns-clause-client g c = λ openings is.
       clients = refl;
       most = refl;
     })
-

@@ -1,4 +1,3 @@
-use Rattle.std.proofs.Common.{rules}
 use Rattle.tm_client.proofs.Asked as asked
 use Rattle.tm_client.proofs.client.Client.why_not_entrust.Goals as goal
 
