@@ -1,6 +1,7 @@
 -- The front of a list, an element at a time.
-use Rattle.std.proofs.Common.{◌≡◌, ℕ, zero, suc, ◌+◌, List, [], ◌∷◌, ◌++◌, take, drop, length, true, refl, sym, ◌∙◌, ap, arith}
-use Rattle.std.specs.Prelude.{◌==◌, IsOk, OnOk, slice_get}
+use Rattle.std.proofs.Common.{◌≡◌, ℕ, zero, suc, ◌+◌, ◌<◌, List, [], ◌∷◌, ◌++◌, take, drop, length, true, refl, sym, ◌∙◌, ap, subst, arith}
+use Rattle.std.specs.Prelude.{◌==◌, IsOk, OnOk, IsSomeAnd, slice_get, slice_set}
+use Rattle.std.specs.declared.option.Option.{Option}
 use Rattle.std.specs.declared.option.Option.TheVariants.{None, Some}
 use Rattle.tm_core.proofs.CallerLemmas.{is_same}
 use Rattle.std.specs.declared.result.Result.{Result}
@@ -42,3 +43,18 @@ module _ {X : Type 0} where
   pub empty_of : (xs : List X) → true ≡ (length xs == 0) → xs ≡ []
   empty_of [] e = refl
   empty_of (x ∷ xs) e = absurd (let none = is_same (length (x ∷ xs)) 0 (sym e) in omega (arith, none))
+
+  -- what holds of a value that is there
+  pub some_has : (o : Option X) (x : X) (P : X → Type 0) → o ≡ Some x → IsSomeAnd o P → P x
+  some_has o x P e h = subst (λ o. IsSomeAnd o P) e h
+
+  -- what a write at an index leaves there, and that writing what stands there changes nothing
+  pub set_there : (xs : List X) (i : ℕ) (y : X) → i < length xs → slice_get (slice_set xs i y) i ≡ Some y
+  set_there [] i y lt = absurd (omega (arith, lt))
+  set_there (x ∷ xs) zero y lt = refl
+  set_there (x ∷ xs) (suc i) y lt = set_there xs i y (omega (arith, lt))
+
+  pub set_same : (xs : List X) (i : ℕ) (x : X) → slice_get xs i ≡ Some x → slice_set xs i x ≡ xs
+  set_same [] i x e = absurd cc
+  set_same (y ∷ xs) zero x e = let same : x ≡ y = cc in ap (λ z. z ∷ xs) same
+  set_same (y ∷ xs) (suc i) x e = ap (λ l. y ∷ l) (set_same xs i x e)

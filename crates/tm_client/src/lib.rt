@@ -16,6 +16,7 @@ mod marking;
 mod post;
 mod taking;
 mod trust;
+mod turn;
 mod turning;
 
 pub use answers::{Arrival, Got, Refused, Turn, Why};
