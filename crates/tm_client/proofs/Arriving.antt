@@ -12,7 +12,7 @@ use Rattle.tm_model.specs.Fits.{Fits}
 use Rattle.tm_client.specs.declared.trust.Trust.{Trust}
 use Rattle.tm_client.specs.declared.answers.Arrival.{Arrival}
 use Rattle.tm_client.specs.Lanes.{asks_in, bringing, IsAccepted}
-use Rattle.tm_client.specs.Clients.{is_at, given, brings, entrusted, IsTakeable, come_of, brought_in, entrusted_in}
+use Rattle.tm_client.specs.Clients.{is_at, given, entrusted, IsTakeable, come_of, brought_in, entrusted_in}
 use Rattle.tm_client.specs.SideLaws.{brings_in}
 use Rattle.tm_client.specs.Turns.{arrivals_of, gifts_from}
 

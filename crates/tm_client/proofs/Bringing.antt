@@ -1,9 +1,6 @@
 -- What a collect brings.
-use Rattle.std.proofs.Common.{◌≡◌, ◌≢◌, ℕ, ◌+◌, ◌<◌, ◌≤◌, zero, suc, true, false, List, [], ◌∷◌, ◌++◌, length, slice_index_or, refl, sym, ◌∙◌, ap, subst, arith, append-nil}
+use Rattle.std.proofs.Common.{◌≡◌, ℕ, ◌+◌, ◌<◌, zero, suc, List, [], ◌∷◌, ◌++◌, length, slice_index_or, refl, sym, ◌∙◌, ap, subst, arith, append-nil}
 use Rattle.std.specs.List.{AllZip, AllByRecursion, Contains}
-use Rattle.std.specs.declared.option.Option.{Option}
-use Rattle.std.specs.declared.option.Option.TheVariants.{None, Some}
-use Rattle.std.proofs.lemmas.List.Elements.{Contains-append_left}
 use Rattle.tm_seq.specs.Kind.{Kind}
 use Rattle.tm_batch.specs.declared.message.Request.{Request}
 use Rattle.tm_batch.specs.declared.message.Request.TheVariants.{Entrust, Apply, Launch, Grant, Release, Reclaim, Bye}
@@ -17,9 +14,9 @@ use Rattle.tm_model.specs.Holds.{launches_in, gave, brought_by, gifts_of, answer
 use Rattle.tm_model.specs.Fits.{Fits}
 use Rattle.tm_core.proofs.ClientTickets.{tickets_come_first}
 use Rattle.tm_core.proofs.Tallies.{answers_in-append, gifts_in-append, gifts_of-append}
-use Rattle.tm_pair.specs.Views.{BatchView, ClientView}
+use Rattle.tm_pair.specs.Views.{ClientView}
 use Rattle.tm_pair.specs.Sides.{IsGoodClient}
-use Rattle.tm_pair.specs.Calls.{AreAnswers, Gets}
+use Rattle.tm_pair.specs.Calls.{Gets}
 use Rattle.tm_client.specs.Lanes.{out_requests, bringing, AreHeld}
 use Rattle.tm_client.specs.Clients.{brings}
 use Rattle.tm_client.specs.SideLaws.{brings_in, Brings, CollectsBring}

@@ -1,17 +1,13 @@
 -- What waits at a side may go, and so may a Bye.
-use Rattle.std.proofs.Common.{◌≡◌, ◌≢◌, ℕ, ◌+◌, ◌<◌, ◌≤◌, true, false, List, [], ◌∷◌, ◌++◌, length, refl, sym, ◌∙◌, ap, subst, arith, append_assoc, append-nil}
+use Rattle.std.proofs.Common.{◌≡◌, ℕ, false, List, [], ◌∷◌, ◌++◌, refl, sym, ◌∙◌, ap, arith, append_assoc}
 use Rattle.std.specs.List.{AllByRecursion}
 use Rattle.tm_seq.specs.Kind.{Kind}
-use Rattle.tm_batch.specs.declared.limits.TheConstants.{WINDOW}
 use Rattle.tm_batch.specs.declared.message.Request.{Request}
 use Rattle.tm_batch.specs.declared.message.Request.TheVariants.{Entrust, Apply, Launch, Grant, Release, Reclaim, Bye}
-use Rattle.tm_batch.specs.declared.message.AnswerBatch.{AnswerBatch}
-use Rattle.tm_model.specs.State.{State}
-use Rattle.tm_model.specs.Holds.{Names, has_bye, launches_in, gave, answers_in, ended_in, came}
-use Rattle.tm_model.specs.Orderly.{GrantsBelow, IsOrderly}
+use Rattle.tm_model.specs.Holds.{Names, has_bye, launches_in, came}
+use Rattle.tm_model.specs.Orderly.{GrantsBelow}
 use Rattle.tm_core.proofs.Tallies.{launches_in-append, came_same}
-use Rattle.tm_pair.specs.Views.{ClientView}
-use Rattle.tm_client.specs.Lanes.{IsAccepted, AreHeld}
+use Rattle.tm_client.specs.Lanes.{IsAccepted}
 use Rattle.tm_client.specs.SideLaws.{WaitsMayGo, RestIsHeld, ByesMayGo}
 use Rattle.tm_client.proofs.Living.{as_many_came, ended_none}
 
@@ -75,8 +71,7 @@ module _ {V O R T : Type 0} where
     rest_is_held opening old new b rest room good publishes held =
         let same : (id : ℕ) → came opening new.place new.sent new.got id ≡ came opening old.place old.sent old.got id =
         λ id. rw (publishes.place, publishes.sent, publishes.got)
-        (came_same opening old.place old.sent b old.got id (as_many_came kind opening old good)) in
-        (
+        (came_same opening old.place old.sent b old.got id (as_many_came kind opening old good)) in (
           λ before after q id e names.
               let more = held (b ++ before) after q id (ap (λ l. b ++ l) e ∙ sym (append_assoc b before (q ∷ after))) names in
               let sent : new.sent ++ before ≡ old.sent ++ (b ++ before) = ap (λ l. l ++ before) publishes.sent ∙ append_assoc old.sent b before in

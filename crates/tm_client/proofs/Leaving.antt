@@ -1,19 +1,17 @@
 -- What left a lane since it was due may be sent.
-use Rattle.std.proofs.Common.{◌≡◌, ◌≢◌, ℕ, ◌⊎◌, inl, inr, true, false, List, [], ◌∷◌, ◌++◌, take, drop, refl, sym, ◌∙◌, ap, subst, arith}
+use Rattle.std.proofs.Common.{◌≡◌, ℕ, inl, inr, List, [], ◌++◌, take, drop, sym, ◌∙◌, ap, subst}
 use Rattle.std.proofs.lemmas.List.{take-append-drop}
 use Rattle.tm_seq.specs.Kind.{Kind}
 use Rattle.tm_batch.specs.declared.limits.TheConstants.{MOST_REQUESTS}
 use Rattle.tm_batch.specs.declared.message.Request.{Request}
-use Rattle.tm_batch.specs.declared.message.Request.TheVariants.{Bye}
 use Rattle.tm_model.specs.State.{State}
-use Rattle.tm_model.specs.Holds.{has_bye}
 use Rattle.tm_pair.specs.Views.{ClientView}
 use Rattle.tm_pair.specs.Sides.{IsGoodClient}
 use Rattle.tm_pair.specs.Calls.{MaySend}
 use Rattle.tm_pair.specs.Theory.{Theory}
 use Rattle.tm_client.specs.declared.lane.Lane.{Lane}
 use Rattle.tm_client.specs.Lanes.{IsLane}
-use Rattle.tm_client.specs.Due.{WaitsDue, ByeDue, FetchDue, NothingDue, Leaves, HasLeft}
+use Rattle.tm_client.specs.Due.{ByeDue, FetchDue, NothingDue, Leaves}
 use Rattle.tm_client.specs.Sending.{Goes}
 use Rattle.tm_client.specs.Turns.{IsByeDue, IsFetchDue, IsDue}
 use Rattle.tm_client.proofs.Sending.{front_may_go, bye_may_go}

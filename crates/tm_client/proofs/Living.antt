@@ -1,17 +1,15 @@
 -- What a side sent and got is what the log ran for it and answered that it has seen, and what it holds by it is live.
-use Rattle.std.proofs.Common.{◌≡◌, ◌≢◌, ℕ, ◌+◌, ◌-◌, ◌<◌, ◌≤◌, true, false, List, [], ◌∷◌, ◌++◌, length, refl, sym, ◌∙◌, ap, subst, arith, append-nil, length-append}
+use Rattle.std.proofs.Common.{◌≡◌, ◌≢◌, ℕ, ◌<◌, ◌≤◌, true, false, List, ◌++◌, length, sym, ◌∙◌, ap, subst, arith, append-nil, length-append}
 use Rattle.std.specs.List.{AllZip}
 use Rattle.std.specs.declared.option.Option.{Option}
 use Rattle.std.specs.declared.option.Option.TheVariants.{None, Some}
 use Rattle.tm_seq.specs.Kind.{Kind}
 use Rattle.tm_batch.specs.declared.message.Request.{Request}
-use Rattle.tm_batch.specs.declared.message.Answer.{Answer}
-use Rattle.tm_batch.specs.declared.message.AnswerBatch.{AnswerBatch}
 use Rattle.tm_model.specs.State.{State, IsHeld}
 use Rattle.tm_model.specs.Serve.{state_after}
 use Rattle.tm_model.specs.Ran.{ran, answered}
 use Rattle.tm_model.specs.Batches.{batches}
-use Rattle.tm_model.specs.Holds.{has_bye, launches_in, gave, answers_in, ended_in, came, held}
+use Rattle.tm_model.specs.Holds.{has_bye, launches_in, gave, answers_in, ended_in, came}
 use Rattle.tm_model.specs.Fits.{Fits}
 use Rattle.tm_model.specs.ClientLaws.{TellsHolds}
 use Rattle.tm_core.proofs.ClientAnswers.{answers_are_as_many, answers_fit}

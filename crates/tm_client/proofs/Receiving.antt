@@ -1,28 +1,24 @@
 -- A client that took in what came of a trustee stays a client.
-use Rattle.std.proofs.Common.{rules, ◌≡◌, ◌≢◌, ℕ, ◌+◌, ◌-◌, ◌<◌, ◌≤◌, ◌⊎◌, true, false, List, [], ◌∷◌, ◌++◌, length, drop, inl, inr, refl, sym, ◌∙◌, ap, subst, arith, append_assoc, append-nil, length-append, length-set, length-drop}
-use Rattle.std.specs.Prelude.{Bool, slice_get, slice_set}
-use Rattle.std.specs.List.{AllByRecursion, AllZip}
-use Rattle.std.specs.declared.option.Option.TheVariants.{None, Some}
+use Rattle.std.proofs.Common.{◌≡◌, ◌≢◌, ℕ, ◌+◌, ◌<◌, ◌≤◌, ◌⊎◌, true, false, List, [], ◌∷◌, ◌++◌, length, drop, inl, inr, refl, sym, ◌∙◌, ap, subst, arith, length-append, length-set, length-drop}
+use Rattle.std.specs.Prelude.{Bool, slice_get}
+use Rattle.std.specs.List.{AllByRecursion}
+use Rattle.std.specs.declared.option.Option.TheVariants.{Some}
 use Rattle.std.proofs.lemmas.Option.{slice_get_within}
-use Rattle.tm_seq.specs.Kind.{Kind}
-use Rattle.tm_batch.specs.declared.limits.TheConstants.{WINDOW}
 use Rattle.tm_batch.specs.declared.message.Request.{Request}
 use Rattle.tm_batch.specs.declared.message.AnswerBatch.{AnswerBatch}
 use Rattle.tm_model.specs.State.{State}
-use Rattle.tm_model.specs.Ran.{ran}
-use Rattle.tm_model.specs.Holds.{has_bye, launches_in, gave, came}
+use Rattle.tm_model.specs.Holds.{has_bye, gave, came}
 use Rattle.tm_core.proofs.CallerLemmas.{all-append}
-use Rattle.tm_core.proofs.Tallies.{gave-append}
 use Rattle.tm_pair.specs.Views.{ClientView}
-use Rattle.tm_pair.specs.Calls.{AreAnswers, Gets}
+use Rattle.tm_pair.specs.Calls.{Gets}
 use Rattle.tm_client.specs.declared.lane.Lane.{Lane}
 use Rattle.tm_client.specs.declared.books.Books.{Books}
-use Rattle.tm_client.specs.Lanes.{asks_in, out_requests, out_room, is_out, bringing, IsAccepted, AreHeld, unanswered, IsLane}
+use Rattle.tm_client.specs.Lanes.{asks_in, out_requests, out_room, bringing, IsAccepted, unanswered, IsLane}
 use Rattle.tm_client.specs.Clients.{listed, come_of, entrusted_in, given, brought_in, lane_coming, lanes_coming, lanes_unanswered, lanes_counting, IsTakeable, IsClient}
 use Rattle.tm_client.specs.Turns.{arrivals_of, gifts_from}
 use Rattle.tm_client.specs.SideLaws.{Brings}
 use Rattle.tm_client.specs.Receiving.{HasReceived}
-use Rattle.tm_client.proofs.Elements.{set_cases, same_element, total_set}
+use Rattle.tm_client.proofs.Elements.{set_cases, total_set}
 use Rattle.tm_client.proofs.Accepting.{bringing-append}
 use Rattle.tm_client.proofs.Arriving.{Arrives, arrives, none_arrives, asks_bring, no_bye_asks, bye_behind, given-append, given_here, given_elsewhere, gifts_all, gifts_many, come_of-append, brought_in-append, entrusted_in-append}
 
@@ -146,10 +142,10 @@ module _ {V C D O R T : Type 0} (view : D → ClientView V O R T) (openings : �
       → IsLane view (openings u) new.number (come_of u new.arrived.items) other
   lanes_are u other e =
       rw h.number (
-        elim (set_cases old.lanes.items t u becomes other (subst (λ xs. slice_get xs u ≡ Some other) h.lanes e)) [
-          inl (own, this) ↦ rw (own, this) becomes_lane
+      elim (set_cases old.lanes.items t u becomes other (subst (λ xs. slice_get xs u ≡ Some other) h.lanes e)) [
+        | inl (own, this) ↦ rw (own, this) becomes_lane
         | inr (ne, there) ↦ rw (elsewhere_now u ne) (is.lanes u other there)
-        ]
+      ]
       )
 
   becomes_holds : (id : ℕ)
@@ -187,10 +183,10 @@ module _ {V C D O R T : Type 0} (view : D → ClientView V O R T) (openings : �
       ≡ came (openings u) new.number (view other.side).sent (view other.side).got id
   holds_are u other id e =
       rw (h.number, h.held) (
-        elim (set_cases old.lanes.items t u becomes other (subst (λ xs. slice_get xs u ≡ Some other) h.lanes e)) [
-          inl (own, this) ↦ rw (own, this) (becomes_holds id)
+      elim (set_cases old.lanes.items t u becomes other (subst (λ xs. slice_get xs u ≡ Some other) h.lanes e)) [
+        | inl (own, this) ↦ rw (own, this) (becomes_holds id)
         | inr (ne, there) ↦ other_holds u other id ne there
-        ]
+      ]
       )
 
   arrived_more : length new.arrived.items ≡ length old.arrived.items + length (asks_in (out_requests (view lane.side).out))
@@ -257,7 +253,7 @@ module _ {V C D O R T : Type 0} (view : D → ClientView V O R T) (openings : �
     gifts =
         rw (h.gifts, as_many, h.number)
         (all-append (λ g. (g.trustee < length old.lanes.items) × (g.client ≡ old.number)) old.gifts.items (gifts_from t old.number a.gifts.items) is.gifts
-            (gifts_all t old.number (length old.lanes.items) a.gifts.items within));
+        (gifts_all t old.number (length old.lanes.items) a.gifts.items within));
     counting = counting_is;
     limit = rw h.most is.limit;
     held_room = rw (h.held, h.most) is.held_room;

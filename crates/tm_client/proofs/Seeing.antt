@@ -1,13 +1,12 @@
 -- What a client has seen of a trustee's log.
-use Rattle.std.proofs.Common.{◌≡◌, ◌≢◌, ℕ, ◌+◌, ◌<◌, ◌≤◌, true, false, List, ◌++◌, sym, ◌∙◌, ap, arith}
+use Rattle.std.proofs.Common.{◌≡◌, ℕ, ◌≤◌, false, ap, arith}
 use Rattle.std.specs.Prelude.{slice_get}
 use Rattle.std.specs.declared.option.Option.TheVariants.{Some}
 use Rattle.tm_seq.specs.Kind.{Kind}
 use Rattle.tm_model.specs.State.{State, IsHeld}
 use Rattle.tm_model.specs.Serve.{state_after}
-use Rattle.tm_model.specs.Holds.{has_bye, gave, came}
+use Rattle.tm_model.specs.Holds.{has_bye, came}
 use Rattle.tm_core.proofs.Tallies.{gave-append}
-use Rattle.tm_pair.specs.Views.{ClientView}
 use Rattle.tm_pair.specs.Sides.{IsGoodClient}
 use Rattle.tm_pair.specs.Theory.{Theory}
 use Rattle.tm_client.specs.declared.lane.Lane.{Lane}

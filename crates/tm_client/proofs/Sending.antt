@@ -1,6 +1,6 @@
 -- A client that published what was due stays a client.
-use Rattle.std.proofs.Common.{rules, ◌≡◌, ◌≢◌, ℕ, ◌+◌, ◌<◌, ◌≤◌, ◌⊎◌, true, false, List, [], ◌∷◌, ◌++◌, length, inl, inr, refl, sym, ◌∙◌, ap, subst, arith, append_assoc, append-nil, length-append, length-set}
-use Rattle.std.specs.Prelude.{Bool, slice_get, slice_set}
+use Rattle.std.proofs.Common.{◌≡◌, ◌≢◌, ℕ, ◌+◌, ◌<◌, true, false, List, [], ◌∷◌, ◌++◌, length, inl, inr, refl, sym, ◌∙◌, ap, subst, arith, append_assoc, append-nil, length-append, length-set}
+use Rattle.std.specs.Prelude.{slice_get}
 use Rattle.std.specs.List.{AllByRecursion}
 use Rattle.std.specs.declared.option.Option.TheVariants.{None, Some}
 use Rattle.std.proofs.lemmas.Option.{slice_get_within}
@@ -9,16 +9,16 @@ use Rattle.tm_batch.specs.declared.message.Request.{Request}
 use Rattle.tm_batch.specs.declared.message.Request.TheVariants.{Entrust, Apply, Launch, Grant, Release, Reclaim, Bye}
 use Rattle.tm_model.specs.State.{State}
 use Rattle.tm_model.specs.Holds.{has_bye, launches_in, gave, came}
-use Rattle.tm_model.specs.Orderly.{GrantsBelow, IsOrderly}
+use Rattle.tm_model.specs.Orderly.{GrantsBelow}
 use Rattle.tm_core.proofs.Tallies.{gave-append, launches_in-append, bye_at, came_same}
 use Rattle.tm_pair.specs.Views.{ClientView}
 use Rattle.tm_pair.specs.Sides.{IsGoodClient}
 use Rattle.tm_pair.specs.Calls.{MaySend, Publishes}
 use Rattle.tm_client.specs.declared.lane.Lane.{Lane}
 use Rattle.tm_client.specs.declared.books.Books.{Books}
-use Rattle.tm_client.specs.Lanes.{asks_in, out_requests, out_room, is_out, bringing, IsAccepted, AreHeld, unanswered, IsLane}
+use Rattle.tm_client.specs.Lanes.{asks_in, out_requests, out_room, bringing, IsAccepted, AreHeld, unanswered, IsLane}
 use Rattle.tm_client.specs.Clients.{listed, come_of, entrusted_in, given, brought_in, lane_coming, lanes_coming, lanes_unanswered, lanes_counting, IsClient}
-use Rattle.tm_client.specs.Sending.{Goes, HasGone}
+use Rattle.tm_client.specs.Sending.{HasGone}
 use Rattle.tm_client.proofs.Elements.{set_cases, total_set}
 use Rattle.tm_client.proofs.Arriving.{no_bye_asks}
 use Rattle.tm_client.proofs.Living.{as_many_came}
@@ -197,10 +197,10 @@ module _ {V C D O R T : Type 0} (kind : Kind V O R T) (view : D → ClientView V
       → IsLane view (openings u) new.number (come_of u new.arrived.items) other
   lanes_are u other e =
       rw (h.number, h.arrived) (
-        elim (set_cases old.lanes.items t u becomes other (subst (λ xs. slice_get xs u ≡ Some other) h.lanes e)) [
-          inl (own, this) ↦ rw (own, this) becomes_lane
+      elim (set_cases old.lanes.items t u becomes other (subst (λ xs. slice_get xs u ≡ Some other) h.lanes e)) [
+        | inl (own, this) ↦ rw (own, this) becomes_lane
         | inr (ne, there) ↦ is.lanes u other there
-        ]
+      ]
       )
 
   becomes_holds : (id : ℕ)
@@ -219,35 +219,35 @@ module _ {V C D O R T : Type 0} (kind : Kind V O R T) (view : D → ClientView V
       ≡ came (openings u) new.number (view other.side).sent (view other.side).got id
   holds_are u other id e =
       rw (h.number, h.held, h.arrived, h.gifts) (
-        elim (set_cases old.lanes.items t u becomes other (subst (λ xs. slice_get xs u ≡ Some other) h.lanes e)) [
-          inl (own, this) ↦ rw (own, this) (becomes_holds id)
+      elim (set_cases old.lanes.items t u becomes other (subst (λ xs. slice_get xs u ≡ Some other) h.lanes e)) [
+        | inl (own, this) ↦ rw (own, this) (becomes_holds id)
         | inr (ne, there) ↦ is.holds u other id there
-        ]
+      ]
       )
 
   coming_is : new.coming ≡ lanes_coming view new.lanes.items + brought_in new.arrived.items + length new.gifts.items
   coming_is =
       rw (h.arrived, h.gifts, h.lanes) (
-        let set = total_set (λ lane. lane_coming view lane) old.lanes.items t lane becomes h.of_lane in
-        let all = is.coming in
-        let now = h.coming in
-        let bring = ap bringing went.unanswered_is in
-        let brought = ap bringing before in
-        let none = ap out_room free in
-        let some = ap out_room publishes.out in
-        omega (arith, set, all, now, bring, brought, none, some)
+      let set = total_set (λ lane. lane_coming view lane) old.lanes.items t lane becomes h.of_lane in
+      let all = is.coming in
+      let now = h.coming in
+      let bring = ap bringing went.unanswered_is in
+      let brought = ap bringing before in
+      let none = ap out_room free in
+      let some = ap out_room publishes.out in
+      omega (arith, set, all, now, bring, brought, none, some)
       )
 
   counting_is : length new.arrived.items + lanes_unanswered view new.lanes.items ≡ lanes_counting view new.lanes.items
   counting_is =
       rw (h.arrived, h.lanes) (
-        let set = total_set (λ lane. length (unanswered view lane)) old.lanes.items t lane becomes h.of_lane in
-        let counts = total_set (λ lane. lane.counting) old.lanes.items t lane becomes h.of_lane in
-        let now = ap length went.unanswered_is in
-        let earlier = ap length before in
-        let one = h.counting in
-        let all = is.counting in
-        omega (arith, set, counts, now, earlier, one, all)
+      let set = total_set (λ lane. length (unanswered view lane)) old.lanes.items t lane becomes h.of_lane in
+      let counts = total_set (λ lane. lane.counting) old.lanes.items t lane becomes h.of_lane in
+      let now = ap length went.unanswered_is in
+      let earlier = ap length before in
+      let one = h.counting in
+      let all = is.counting in
+      omega (arith, set, counts, now, earlier, one, all)
       )
 
   pub sending_keeps : IsClient view openings new

@@ -1,5 +1,5 @@
 -- What a client's side tells of what it sent, got and saw: the statements, each proved as the contract of a function that cites it.
-use Rattle.std.specs.Prelude.{◌≡◌, ◌≢◌, ℕ, ◌+◌, ◌<◌, true, false, List, [], ◌∷◌, ◌++◌, length}
+use Rattle.std.specs.Prelude.{◌≡◌, ◌≢◌, ℕ, ◌+◌, ◌<◌, true, false, List, [], ◌∷◌, ◌++◌}
 use Rattle.std.specs.List.{AllByRecursion, AllZip}
 use Rattle.tm_seq.specs.Kind.{Kind}
 use Rattle.tm_batch.specs.declared.message.Request.{Request}
@@ -8,9 +8,8 @@ use Rattle.tm_batch.specs.declared.message.Answer.{Answer}
 use Rattle.tm_batch.specs.declared.message.AnswerBatch.{AnswerBatch}
 use Rattle.tm_model.specs.State.{State, IsHeld}
 use Rattle.tm_model.specs.Serve.{state_after}
-use Rattle.tm_model.specs.Legal.{IsLegal}
 use Rattle.tm_model.specs.Ran.{ran, answered}
-use Rattle.tm_model.specs.Holds.{has_bye, launches_in, gave, brought_by, gifts_of, answers_in, ended_in, came}
+use Rattle.tm_model.specs.Holds.{has_bye, launches_in, gave, brought_by, gifts_of, answers_in, came}
 use Rattle.tm_model.specs.Orderly.{GrantsBelow, IsOrderly}
 use Rattle.tm_model.specs.Fits.{Fits}
 use Rattle.tm_pair.specs.Views.{ClientView}

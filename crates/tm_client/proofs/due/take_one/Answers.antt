@@ -1,4 +1,4 @@
-use Rattle.std.proofs.Common.{◌≡◌, [], ◌∷◌, ◌++◌, take, sym, ◌∙◌, ap, append-nil}
+use Rattle.std.proofs.Common.{◌++◌, take, sym, ◌∙◌, ap, append-nil}
 use Rattle.tm_client.proofs.Fronts.{ok_then, one_front, no_front}
 use Rattle.tm_client.proofs.due.take_one.Goals as goal
 

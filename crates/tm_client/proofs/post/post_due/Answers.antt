@@ -15,7 +15,7 @@ post-requires g c =
         (
           rw left.side c.requires.free,
           subst (λ s. MaySend (theory.opening c.args.table.now) (theory.client_view s) c.in-Some.batch.requests.items) (sym left.side)
-          (left_may_go g.S.Entrusted.kind theory.client_view (theory.opening c.args.table.now) place n c.args.lane.now was good
+              (left_may_go g.S.Entrusted.kind theory.client_view (theory.opening c.args.table.now) place n c.args.lane.now was good
               c.in-Some.batch.requests.items c.take_due.new.self left.leaves),
         ),
       ),

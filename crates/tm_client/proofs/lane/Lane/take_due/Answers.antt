@@ -1,4 +1,4 @@
-use Rattle.std.proofs.Common.{◌≡◌, refl}
+use Rattle.std.proofs.Common.{refl}
 use Rattle.tm_client.proofs.Fronts.{empty_of}
 use Rattle.tm_client.proofs.lane.Lane.take_due.Goals as goal
 
