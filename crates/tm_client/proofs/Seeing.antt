@@ -1,5 +1,5 @@
 -- What a client has seen of a trustee's log.
-use Rattle.std.proofs.Common.{◌≡◌, ℕ, ◌≤◌, false, ap, arith}
+use Rattle.std.proofs.Common.{◌≡◌, ℕ, ◌≤◌, false, ap, subst, arith}
 use Rattle.std.specs.Prelude.{slice_get}
 use Rattle.std.specs.declared.option.Option.TheVariants.{Some}
 use Rattle.tm_seq.specs.Kind.{Kind}
@@ -36,3 +36,7 @@ module _ {V C D O R T Table Owner : Type 0} (theory : Theory V O R T Table D Own
     fits = answers_fitting kind (openings t) (theory.client_view lane.side) good;
     live = listed_is_live;
   }
+
+  -- by the state in which the trustee opened
+  pub sees_at : (opening : State V O R T) → openings t ≡ opening → Sees theory kind opening t lane books
+  sees_at opening same = subst (λ s. Sees theory kind s t lane books) same sees

@@ -1,5 +1,5 @@
 //! What is due at a trustee where nothing is out.
-ghost use Rattle.std.specs.Prelude.{◌≡◌, ◌≤◌, ◌<◌, ◌↔◌, [], ◌∷◌, ◌++◌, length, take, drop, MatchOption, IsTrue};
+ghost use Rattle.std.specs.Prelude.{◌≡◌, ◌≤◌, ◌<◌, ◌↔◌, [], ◌∷◌, ◌++◌, length, take, drop, MatchOption, IsTrue, false};
 ghost use Rattle.std.specs.declared.option.Option.TheVariants.{Some};
 ghost use Rattle.tm_batch.specs.declared.batch.Batch.{Batch};
 ghost use Rattle.tm_batch.specs.declared.limits.TheConstants.{MOST_REQUESTS, MOST_ROOM};
@@ -70,6 +70,20 @@ impl<S: FitsBatches, C: Drop, D> Lane<S, C, D> {
         ensures { IsTrue result ↔ FetchDue self.now }
     {
         !self.said && self.fetching
+    }
+
+    /// Whether nothing is due.
+    pub(crate) fn is_idle(&self) -> bool
+        ensures idle { IsTrue result → NothingDue self.now }
+        ensures due { (result ≡ false) → ¬ (NothingDue self.now) }
+    {
+        if !self.waits.is_empty() {
+            return false;
+        }
+        if self.is_bye_due() {
+            return false;
+        }
+        !self.is_fetch_due()
     }
 
     /// Takes out what is due, with room for so many gifts.

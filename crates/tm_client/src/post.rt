@@ -1,5 +1,5 @@
 //! What a client publishes at a trustee.
-ghost use Rattle.std.specs.Prelude.{◌≡◌, ◌≤◌, ℕ, MatchOption};
+ghost use Rattle.std.specs.Prelude.{◌≡◌, ◌≤◌, ℕ};
 ghost use Rattle.std.specs.declared.option.Option.TheVariants.{None};
 ghost use Rattle.tm_batch.specs.declared.limits.TheConstants.{MOST_ROOM};
 ghost use Rattle.tm_pair.specs.Calls.{MaySend, Publishes};
@@ -34,23 +34,23 @@ fn post<S: FitsBatches, C: Drop, P: PairTable<S>>(
     lane.fetching = false;
 }
 
-/// Publishes what is due at a lane that has nothing out, with room for so many gifts. How many requests went, if
-/// something was due.
+/// Publishes what is due at a lane that has nothing out, with room for so many gifts. How many requests went.
 pub(crate) fn post_due<S: FitsBatches, C: Drop, P: PairTable<S>>(
     table: &mut P,
     lane: &mut Lane<S, C, P::ClientSide>,
     room: u32,
-) -> Option<u32>
+) -> u32
     requires mine { P.theory.HasClient table.old lane.old.side }
     requires free { (P.theory.client_view lane.old.side).out ≡ None }
     requires lane { (c n : ℕ) × IsLane P.theory.client_view (P.theory.opening table.old) c n lane.old }
     requires room { room ≤ MOST_ROOM }
-    ensures { MatchOption result (NothingDue lane.old × (lane.new ≡ lane.old) × (table.new ≡ table.old)) (λ n. PostsDue P.theory room n table.old table.new lane.old lane.new) }
+    requires due { ¬ (NothingDue lane.old) }
+    ensures { PostsDue P.theory room result table.old table.new lane.old lane.new }
 {
     let Some(batch) = lane.take_due(room) else {
-        return None;
+        return 0;
     };
     let count = batch.len() as u32;
     post(table, lane, batch);
-    Some(count)
+    count
 }

@@ -24,13 +24,12 @@ impl<S: FitsBatches, C: Drop, P: PairTable<S>> Client<S, C, P> {
         ensures client { (openings : ℕ → State S S.Op S.Reply S.Task) → openings trustee ≡ P.theory.opening table.old → IsClient P.theory.client_view openings self.old.books → IsClient P.theory.client_view openings self.new.books }
     {
         let books = &mut self.books;
-        let room = room_of(books.most, books.held.len(), books.coming);
-        match post_due(table, &mut books.lanes[trustee as usize], room) {
-            Some(count) => {
-                books.coming += room;
-                Turn::Sent(count)
-            }
-            None => Turn::Idle,
+        if books.lanes[trustee as usize].is_idle() {
+            return Turn::Idle;
         }
+        let room = room_of(books.most, books.held.len(), books.coming);
+        let count = post_due(table, &mut books.lanes[trustee as usize], room);
+        books.coming += room;
+        Turn::Sent(count)
     }
 }

@@ -10,45 +10,56 @@ use Rattle.tm_client.specs.Clients.{come_of}
 use Rattle.tm_client.specs.Turns.{Sees}
 use Rattle.tm_client.proofs.Fronts.{some_has, set_there, set_same}
 use Rattle.tm_client.proofs.Leaving.{left_goes, left_is_due, nothing_is_due}
-use Rattle.tm_client.proofs.Seeing.{sees}
+use Rattle.tm_client.proofs.Seeing.{sees_at}
 use Rattle.tm_client.proofs.Sending.{sending_keeps}
 use Rattle.tm_client.proofs.client.Client.send.Goals as goal
 
-pub post_due-requires : goal.post_due-requires
-post_due-requires g c =
+pub post_due-count-requires-clause-mine : goal.post_due-count-requires-clause-mine
+post_due-count-requires-clause-mine g c =
     let theory = g.P.PairTable.theory in
     let books = c.args.self.now.books in
     let lane = c.index_mut.result.now in
     let there = slice_get_read books.lanes.items (length books.lanes.items) c.args.trustee lane refl c.requires.trustee c.index_mut.ensures.value in
-    let (openings, same, is) = c.requires.client in record {
-      mine = some_has _ lane (λ lane. theory.HasClient c.args.table.now lane.side) there c.requires.mine;
-      free = some_has _ lane (λ lane. (theory.client_view lane.side).out ≡ None) there c.requires.free;
-      lane = (
-        books.number,
-        come_of c.args.trustee books.arrived.items,
-        subst (λ s. IsLane theory.client_view s books.number (come_of c.args.trustee books.arrived.items) lane) same (is.lanes c.args.trustee lane there),
-      );
-      room = c.room_of-room.ensures.most;
-    }
+    some_has _ lane (λ lane. theory.HasClient c.args.table.now lane.side) there c.requires.mine
 
-pub returns-in-Some-clause-client : goal.returns-in-Some-clause-client
-returns-in-Some-clause-client g c = λ openings same is.
+pub post_due-count-requires-clause-free : goal.post_due-count-requires-clause-free
+post_due-count-requires-clause-free g c =
+    let theory = g.P.PairTable.theory in
+    let books = c.args.self.now.books in
+    let lane = c.index_mut.result.now in
+    let there = slice_get_read books.lanes.items (length books.lanes.items) c.args.trustee lane refl c.requires.trustee c.index_mut.ensures.value in
+    some_has _ lane (λ lane. (theory.client_view lane.side).out ≡ None) there c.requires.free
+
+pub post_due-count-requires-clause-lane : goal.post_due-count-requires-clause-lane
+post_due-count-requires-clause-lane g c =
+    let theory = g.P.PairTable.theory in
+    let books = c.args.self.now.books in
+    let lane = c.index_mut.result.now in
+    let there = slice_get_read books.lanes.items (length books.lanes.items) c.args.trustee lane refl c.requires.trustee c.index_mut.ensures.value in
+    let (openings, same, is) = c.requires.client in (
+      books.number,
+      come_of c.args.trustee books.arrived.items,
+      subst (λ s. IsLane theory.client_view s books.number (come_of c.args.trustee books.arrived.items) lane) same (is.lanes c.args.trustee lane there),
+    )
+
+pub returns-clause-client : goal.returns-clause-client
+returns-clause-client g c = λ openings same is.
     let theory = g.P.PairTable.theory in
     let books = c.args.self.now.books in
     let lane = c.index_mut.result.now in
     let there = slice_get_read books.lanes.items (length books.lanes.items) c.args.trustee lane refl c.requires.trustee c.index_mut.ensures.value in
     let mine = some_has _ lane (λ lane. theory.HasClient c.args.table.now lane.side) there c.requires.mine in
     let free = some_has _ lane (λ lane. (theory.client_view lane.side).out ≡ None) there c.requires.free in
-    let posts = c.in-Some.ensures in
+    let posts = c.post_due-count.ensures in
     let good =
     subst (λ s. IsGoodClient g.S.Entrusted.kind s (theory.client_view lane.side)) (sym same) (g.met.P.PairTable.laws.client_is_good c.args.table.now lane.side mine) in
     let fits = c.room_of-room.ensures.fits in
     let many = c.len.ensures in
-    sending_keeps g.S.Entrusted.kind theory.client_view openings c.args.trustee posts.batch.requests.items c.room_of-room.result lane c.post_due.new.lane books _ is (
+    sending_keeps g.S.Entrusted.kind theory.client_view openings c.args.trustee posts.batch.requests.items c.room_of-room.result lane c.post_due-count.new.lane books _ is (
       record {
         of_lane = there;
         lanes = refl;
-        goes = left_goes posts.batch.requests.items lane c.post_due.new.lane posts.leaves;
+        goes = left_goes posts.batch.requests.items lane c.post_due-count.new.lane posts.leaves;
         waits_room = posts.waits_room;
         afters = posts.afters;
         counting = posts.counting;
@@ -67,8 +78,8 @@ returns-in-Some-clause-client g c = λ openings same is.
       }
     ) good free posts.publishes
 
-pub returns-in-Some-clause-turned : goal.returns-in-Some-clause-turned
-returns-in-Some-clause-turned g c =
+pub returns-clause-turned : goal.returns-clause-turned
+returns-clause-turned g c =
     let theory = g.P.PairTable.theory in
     let books = c.args.self.now.books in
     let lane = c.index_mut.result.now in
@@ -76,12 +87,12 @@ returns-in-Some-clause-turned g c =
     let mine = some_has _ lane (λ lane. theory.HasClient c.args.table.now lane.side) there c.requires.mine in
     let free = some_has _ lane (λ lane. (theory.client_view lane.side).out ≡ None) there c.requires.free in
     let (openings, same, is) = c.requires.client in
-    let posts = c.in-Some.ensures in
-    let becomes = c.post_due.new.lane in
+    let posts = c.post_due-count.ensures in
+    let becomes = c.post_due-count.new.lane in
     let length_is : c.len.result ≡ length books.held.items = let many = c.len.ensures in omega (arith, many) in
     let good =
     subst (λ s. IsGoodClient g.S.Entrusted.kind s (theory.client_view becomes.side)) (posts.keeps.opening ∙ sym same)
-    (g.met.P.PairTable.laws.client_is_good c.post_due.new.table becomes.side posts.keeps.mine) in
+    (g.met.P.PairTable.laws.client_is_good c.post_due-count.new.table becomes.side posts.keeps.mine) in
     record {
       lane = lane;
       becomes = becomes;
@@ -102,7 +113,6 @@ returns-in-Some-clause-turned g c =
         fetching = posts.fetching;
       };
       sees =
-          subst (λ s. Sees theory g.S.Entrusted.kind s c.args.trustee becomes _) same
-          (sees theory g.S.Entrusted.kind openings c.args.trustee becomes _ (returns-in-Some-clause-client g c openings same is)
-              (set_there books.lanes.items c.args.trustee becomes c.requires.trustee) good);
+          sees_at theory g.S.Entrusted.kind openings c.args.trustee becomes _ (returns-clause-client g c openings same is)
+          (set_there books.lanes.items c.args.trustee becomes c.requires.trustee) good (theory.opening c.args.table.now) same;
     }
