@@ -116,3 +116,24 @@ returns-clause-turned g c =
           sees_at theory g.S.Entrusted.kind openings c.args.trustee becomes _ (returns-clause-client g c openings same is)
           (set_there books.lanes.items c.args.trustee becomes c.requires.trustee) good (theory.opening c.args.table.now) same;
     }
+
+pub returns-then-is_idle-clause-turned : goal.returns-then-is_idle-clause-turned
+returns-then-is_idle-clause-turned g c =
+    let theory = g.P.PairTable.theory in
+    let books = c.args.self.now.books in
+    let lane = c.index.result.now in
+    let there = slice_get_read books.lanes.items (length books.lanes.items) c.args.trustee lane refl c.requires.trustee c.index.ensures in
+    let mine = some_has _ lane (λ lane. theory.HasClient c.args.table.now lane.side) there c.requires.mine in
+    let free = some_has _ lane (λ lane. (theory.client_view lane.side).out ≡ None) there c.requires.free in
+    let (openings, same, is) = c.requires.client in
+    let none = c.if-is_idle.ensures.idle refl in
+    let due = nothing_is_due theory (openings c.args.trustee) books.number (come_of c.args.trustee books.arrived.items) lane (is.lanes c.args.trustee lane there) none in
+    let good =
+    subst (λ s. IsGoodClient g.S.Entrusted.kind s (theory.client_view lane.side)) (sym same) (g.met.P.PairTable.laws.client_is_good c.args.table.now lane.side mine) in
+    record {
+      lane = lane;
+      becomes = lane;
+      turns = record { of_lane = there; lanes = sym (set_same books.lanes.items c.args.trustee lane there); closing = refl; number = refl; clients = refl; most = refl; held = refl };
+      tells = record { free = free; waits = due.0; no_bye = due.1; no_fetch = due.2; kept = refl; table = refl };
+      sees = sees_at theory g.S.Entrusted.kind openings c.args.trustee lane books is there good (theory.opening c.args.table.now) same;
+    }
