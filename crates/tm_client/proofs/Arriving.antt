@@ -1,0 +1,236 @@
+-- What arrives with answers, and what comes with gifts, counted by trustee and id.
+use Rattle.std.proofs.Common.{◌≡◌, ◌≢◌, ℕ, ◌+◌, ◌<◌, ◌≤◌, true, false, cond, List, [], ◌∷◌, ◌++◌, length, refl, sym, ◌∙◌, ap, arith, eq-eqb, ne_eqb}
+use Rattle.std.specs.Prelude.{◌==◌}
+use Rattle.std.specs.List.{AllByRecursion, AllZip}
+use Rattle.tm_batch.specs.declared.message.Name.{Name}
+use Rattle.tm_batch.specs.declared.message.Request.{Request}
+use Rattle.tm_batch.specs.declared.message.Request.TheVariants.{Entrust, Apply, Launch, Grant, Release, Reclaim, Bye}
+use Rattle.tm_batch.specs.declared.message.Answer.{Answer}
+use Rattle.tm_batch.specs.declared.message.Answer.TheVariants.{Entrusted, NotEntrusted, Replied, Launched, TicketsSpent, Granted, Gone, GiftsFull, Released, Reclaimed, Shared, ByeDone}
+use Rattle.tm_model.specs.Holds.{has_bye, brought, brought_by, gifts_of}
+use Rattle.tm_model.specs.Fits.{Fits}
+use Rattle.tm_client.specs.declared.trust.Trust.{Trust}
+use Rattle.tm_client.specs.declared.answers.Arrival.{Arrival}
+use Rattle.tm_client.specs.Lanes.{asks_in, bringing, IsAccepted}
+use Rattle.tm_client.specs.Clients.{is_at, given, entrusted, IsTakeable, come_of, brought_in, entrusted_in}
+use Rattle.tm_client.specs.SideLaws.{brings_in}
+use Rattle.tm_client.specs.Turns.{arrivals_of, gifts_from}
+
+-- at its own trustee an id counts as it does there, and at no other
+at_own : (t id named : ℕ) → is_at t id t named ≡ cond (named == id) 1 0
+at_own t id named = ap (λ e. cond e (cond (named == id) 1 0) 0) (eq-eqb t t refl)
+
+at_other : (u t id named : ℕ) → u ≢ t → is_at u id t named ≡ 0
+at_other u t id named ne = ap (λ e. cond e (cond (named == id) 1 0) 0) (ne_eqb t u (λ e. ne (sym e)))
+
+pub given-append : (t id : ℕ) (xs ys : List Trust) → given t id (xs ++ ys) ≡ given t id xs + given t id ys
+given-append t id [] ys = omega arith
+given-append t id (g ∷ xs) ys = let more = given-append t id xs ys in omega (arith, more)
+
+pub given_here : (t c id : ℕ) (names : List Name) → given t id (gifts_from t c names) ≡ gifts_of id names
+given_here t c id [] = refl
+given_here t c id (n ∷ names) = let first = at_own t id n.id in let more = given_here t c id names in omega (arith, first, more)
+
+pub given_elsewhere : (u t c id : ℕ) (names : List Name) → u ≢ t → given u id (gifts_from t c names) ≡ 0
+given_elsewhere u t c id [] ne = refl
+given_elsewhere u t c id (n ∷ names) ne = let first = at_other u t id n.id ne in let more = given_elsewhere u t c id names ne in omega (arith, first, more)
+
+pub gifts_all : (t c n : ℕ) (names : List Name) → t < n → AllByRecursion (λ g. (g.trustee < n) × (g.client ≡ c)) (gifts_from t c names)
+gifts_all t c n [] lt = tt
+gifts_all t c n (x ∷ names) lt = ((lt, refl), gifts_all t c n names lt)
+
+pub gifts_many : (t c : ℕ) (names : List Name) → length (gifts_from t c names) ≡ length names
+gifts_many t c [] = refl
+gifts_many t c (x ∷ names) = let more = gifts_many t c names in omega (arith, more)
+
+module _ {V O R T : Type 0} where
+  pub no_bye_asks : (b : List (Request V O R T)) → has_bye b ≡ false → asks_in b ≡ b
+  no_bye_asks [] h = refl
+  no_bye_asks (Entrust v ∷ b) h = ap (λ l. Entrust v ∷ l) (no_bye_asks b h)
+  no_bye_asks (Apply n op ∷ b) h = ap (λ l. Apply n op ∷ l) (no_bye_asks b h)
+  no_bye_asks (Launch n task ∷ b) h = ap (λ l. Launch n task ∷ l) (no_bye_asks b h)
+  no_bye_asks (Grant n d ∷ b) h = ap (λ l. Grant n d ∷ l) (no_bye_asks b h)
+  no_bye_asks (Release n ∷ b) h = ap (λ l. Release n ∷ l) (no_bye_asks b h)
+  no_bye_asks (Reclaim n ∷ b) h = ap (λ l. Reclaim n ∷ l) (no_bye_asks b h)
+  no_bye_asks (Bye ∷ b) h = absurd cc
+
+  pub bye_behind : (xs ys : List (Request V O R T)) → has_bye ys ≡ true → has_bye (xs ++ ys) ≡ true
+  bye_behind [] ys h = h
+  bye_behind (Entrust v ∷ xs) ys h = bye_behind xs ys h
+  bye_behind (Apply n op ∷ xs) ys h = bye_behind xs ys h
+  bye_behind (Launch n task ∷ xs) ys h = bye_behind xs ys h
+  bye_behind (Grant n d ∷ xs) ys h = bye_behind xs ys h
+  bye_behind (Release n ∷ xs) ys h = bye_behind xs ys h
+  bye_behind (Reclaim n ∷ xs) ys h = bye_behind xs ys h
+  bye_behind (Bye ∷ xs) ys h = refl
+
+  -- a Bye brings nothing
+  pub asks_bring : (b : List (Request V O R T)) → bringing (asks_in b) ≡ bringing b
+  asks_bring [] = refl
+  asks_bring (Entrust v ∷ b) = ap (λ n. 1 + n) (asks_bring b)
+  asks_bring (Apply n op ∷ b) = asks_bring b
+  asks_bring (Launch n task ∷ b) = asks_bring b
+  asks_bring (Grant n d ∷ b) = asks_bring b
+  asks_bring (Release n ∷ b) = asks_bring b
+  asks_bring (Reclaim n ∷ b) = ap (λ n. 1 + n) (asks_bring b)
+  asks_bring (Bye ∷ b) = asks_bring b
+
+  none_asked : (id : ℕ) (b : List (Request V O R T)) (answers : List (Answer V O R T)) → asks_in b ≡ [] → brought_by id b answers ≡ 0
+  none_asked id [] answers e = refl
+  none_asked id (Bye ∷ b) [] e = refl
+  none_asked id (Bye ∷ b) (a ∷ answers) e = let more = none_asked id b answers e in omega (arith, more)
+  none_asked id (Entrust v ∷ b) answers e = absurd cc
+  none_asked id (Apply n op ∷ b) answers e = absurd cc
+  none_asked id (Launch n task ∷ b) answers e = absurd cc
+  none_asked id (Grant n d ∷ b) answers e = absurd cc
+  none_asked id (Release n ∷ b) answers e = absurd cc
+  none_asked id (Reclaim n ∷ b) answers e = absurd cc
+
+  -- the answer to a request that was accepted can be taken, and brings what its request may
+  one_takeable : (q : Request V O R T) (a : Answer V O R T) → Fits q a → IsAccepted q → IsTakeable a
+  one_takeable (Entrust v) (Entrusted name) h own = tt
+  one_takeable (Entrust v) (NotEntrusted refusal back) h own = tt
+  one_takeable (Entrust v) _ h own = absurd h
+  one_takeable (Apply n op) (Replied r) h own = tt
+  one_takeable (Apply n op) _ h own = absurd h
+  one_takeable (Launch n task) a h own = absurd own
+  one_takeable (Grant n d) Granted h own = tt
+  one_takeable (Grant n d) Gone h own = tt
+  one_takeable (Grant n d) GiftsFull h own = tt
+  one_takeable (Grant n d) _ h own = absurd h
+  one_takeable (Release n) Released h own = tt
+  one_takeable (Release n) _ h own = absurd h
+  one_takeable (Reclaim n) a h own = absurd own
+  one_takeable Bye a h own = absurd own
+
+  one_entrusted : (t id : ℕ) (q : Request V O R T) (a : Answer V O R T) → Fits q a → IsAccepted q → entrusted t id t a ≡ brought id q a
+  one_entrusted t id (Entrust v) (Entrusted name) h own = at_own t id name.id
+  one_entrusted t id (Entrust v) (NotEntrusted refusal back) h own = refl
+  one_entrusted t id (Entrust v) _ h own = absurd h
+  one_entrusted t id (Apply n op) (Replied r) h own = refl
+  one_entrusted t id (Apply n op) _ h own = absurd h
+  one_entrusted t id (Launch n task) a h own = absurd own
+  one_entrusted t id (Grant n d) Granted h own = refl
+  one_entrusted t id (Grant n d) Gone h own = refl
+  one_entrusted t id (Grant n d) GiftsFull h own = refl
+  one_entrusted t id (Grant n d) _ h own = absurd h
+  one_entrusted t id (Release n) Released h own = refl
+  one_entrusted t id (Release n) _ h own = absurd h
+  one_entrusted t id (Reclaim n) a h own = absurd own
+  one_entrusted t id Bye a h own = absurd own
+
+  other_entrusted : (u t id : ℕ) (a : Answer V O R T) → u ≢ t → entrusted u id t a ≡ 0
+  other_entrusted u t id (Entrusted name) ne = at_other u t id name.id ne
+  other_entrusted u t id (NotEntrusted refusal back) ne = refl
+  other_entrusted u t id (Replied r) ne = refl
+  other_entrusted u t id (Launched ticket) ne = refl
+  other_entrusted u t id (TicketsSpent task) ne = refl
+  other_entrusted u t id Granted ne = refl
+  other_entrusted u t id Gone ne = refl
+  other_entrusted u t id GiftsFull ne = refl
+  other_entrusted u t id Released ne = refl
+  other_entrusted u t id (Reclaimed v) ne = refl
+  other_entrusted u t id Shared ne = refl
+  other_entrusted u t id ByeDone ne = refl
+
+module _ {V O R T C : Type 0} where
+  pub come_of-append : (t : ℕ) (xs ys : List (Arrival V C O R T)) → come_of t (xs ++ ys) ≡ come_of t xs + come_of t ys
+  come_of-append t [] ys = omega arith
+  come_of-append t (x ∷ xs) ys = let more = come_of-append t xs ys in omega (arith, more)
+
+  pub brought_in-append : (xs ys : List (Arrival V C O R T)) → brought_in (xs ++ ys) ≡ brought_in xs + brought_in ys
+  brought_in-append [] ys = omega arith
+  brought_in-append (x ∷ xs) ys = let more = brought_in-append xs ys in omega (arith, more)
+
+  pub entrusted_in-append : (t id : ℕ) (xs ys : List (Arrival V C O R T)) → entrusted_in t id (xs ++ ys) ≡ entrusted_in t id xs + entrusted_in t id ys
+  entrusted_in-append t id [] ys = omega arith
+  entrusted_in-append t id (x ∷ xs) ys = let more = entrusted_in-append t id xs ys in omega (arith, more)
+
+  -- what arrives of trustee t with the answers to the batch b
+  pub record Arrives (t n : ℕ) (b : List (Request V O R T)) (ks : List C) (answers : List (Answer V O R T)) : Type 0 where
+    pub many : length (arrivals_of t ks answers) ≡ length (asks_in b)
+    pub here : come_of t (arrivals_of t ks answers) ≡ length (asks_in b)
+    pub elsewhere : (u : ℕ) → u ≢ t → come_of u (arrivals_of t ks answers) ≡ 0
+    pub brought : brought_in (arrivals_of t ks answers) ≡ bringing b
+    pub entrusted : (id : ℕ) → entrusted_in t id (arrivals_of t ks answers) ≡ brought_by id b answers
+    pub entrusted_elsewhere : (u id : ℕ) → u ≢ t → entrusted_in u id (arrivals_of t ks answers) ≡ 0
+    pub takeable : AllByRecursion (λ a. (a.trustee < n) × IsTakeable a.answer) (arrivals_of t ks answers)
+
+  many_arrive : (t : ℕ) (ks : List C) (answers : List (Answer V O R T)) → length answers ≤ length ks → length (arrivals_of t ks answers) ≡ length answers
+  many_arrive t [] [] le = refl
+  many_arrive t [] (a ∷ answers) le = absurd (omega (arith, le))
+  many_arrive t (k ∷ ks) [] le = refl
+  many_arrive t (k ∷ ks) (a ∷ answers) le = let more = many_arrive t ks answers (omega (arith, le)) in omega (arith, more)
+
+  here_arrive : (t : ℕ) (ks : List C) (answers : List (Answer V O R T)) → come_of t (arrivals_of t ks answers) ≡ length (arrivals_of t ks answers)
+  here_arrive t [] answers = refl
+  here_arrive t (k ∷ ks) [] = refl
+  here_arrive t (k ∷ ks) (a ∷ answers) =
+      let own = ap {B = ℕ} (λ e. cond e 1 0) (eq-eqb t t refl) in let more = here_arrive t ks answers in omega (arith, own, more)
+
+  elsewhere_arrive : (u t : ℕ) (ks : List C) (answers : List (Answer V O R T)) → u ≢ t → come_of u (arrivals_of t ks answers) ≡ 0
+  elsewhere_arrive u t [] answers ne = refl
+  elsewhere_arrive u t (k ∷ ks) [] ne = refl
+  elsewhere_arrive u t (k ∷ ks) (a ∷ answers) ne =
+      let other = ap {B = ℕ} (λ e. cond e 1 0) (ne_eqb t u (λ e. ne (sym e))) in let more = elsewhere_arrive u t ks answers ne in omega (arith, other, more)
+
+  brought_arrive : (t : ℕ) (ks : List C) (answers : List (Answer V O R T)) → length answers ≤ length ks → brought_in (arrivals_of t ks answers) ≡ brings_in answers
+  brought_arrive t [] [] le = refl
+  brought_arrive t [] (a ∷ answers) le = absurd (omega (arith, le))
+  brought_arrive t (k ∷ ks) [] le = refl
+  brought_arrive t (k ∷ ks) (a ∷ answers) le = let more = brought_arrive t ks answers (omega (arith, le)) in omega (arith, more)
+
+  entrusted_else : (u t id : ℕ) (ks : List C) (answers : List (Answer V O R T)) → u ≢ t → entrusted_in u id (arrivals_of t ks answers) ≡ 0
+  entrusted_else u t id [] answers ne = refl
+  entrusted_else u t id (k ∷ ks) [] ne = refl
+  entrusted_else u t id (k ∷ ks) (a ∷ answers) ne =
+      let first = other_entrusted u t id a ne in let more = entrusted_else u t id ks answers ne in omega (arith, first, more)
+
+  entrusted_arrive : (t id : ℕ) (b : List (Request V O R T)) (ks : List C) (answers : List (Answer V O R T)) → AllZip Fits b answers → AllByRecursion IsAccepted b
+      → length answers ≤ length ks → entrusted_in t id (arrivals_of t ks answers) ≡ brought_by id b answers
+  entrusted_arrive t id [] [] [] fits own le = refl
+  entrusted_arrive t id [] (k ∷ ks) [] fits own le = refl
+  entrusted_arrive t id [] ks (a ∷ answers) fits own le = absurd fits
+  entrusted_arrive t id (q ∷ b) ks [] fits own le = absurd fits
+  entrusted_arrive t id (q ∷ b) [] (a ∷ answers) fits own le = absurd (omega (arith, le))
+  entrusted_arrive t id (q ∷ b) (k ∷ ks) (a ∷ answers) fits own le =
+      let first = one_entrusted t id q a fits.0 own.0 in
+      let more = entrusted_arrive t id b ks answers fits.1 own.1 (omega (arith, le)) in
+      omega (arith, first, more)
+
+  takeable_arrive : (t n : ℕ) (b : List (Request V O R T)) (ks : List C) (answers : List (Answer V O R T)) → t < n → AllZip Fits b answers
+      → AllByRecursion IsAccepted b → AllByRecursion (λ a. (a.trustee < n) × IsTakeable a.answer) (arrivals_of t ks answers)
+  takeable_arrive t n b [] answers lt fits own = tt
+  takeable_arrive t n b (k ∷ ks) [] lt fits own = tt
+  takeable_arrive t n [] (k ∷ ks) (a ∷ answers) lt fits own = absurd fits
+  takeable_arrive t n (q ∷ b) (k ∷ ks) (a ∷ answers) lt fits own =
+      ((lt, one_takeable q a fits.0 own.0), takeable_arrive t n b ks answers lt fits.1 own.1)
+
+  -- with the answers to requests that were accepted
+  pub arrives : (t n : ℕ) (b : List (Request V O R T)) (ks : List C) (answers : List (Answer V O R T)) → t < n → AllZip Fits b answers
+      → length answers ≡ length b → brings_in answers ≡ bringing b → has_bye b ≡ false → AllByRecursion IsAccepted b → length b ≤ length ks → Arrives t n b ks answers
+  arrives t n b ks answers lt fits same bring none own le =
+      let all = ap length (no_bye_asks b none) in
+      let many = many_arrive t ks answers (omega (arith, same, le)) in
+      let here = here_arrive t ks answers in
+      record {
+        many = omega (arith, all, many, same);
+        here = omega (arith, all, many, same, here);
+        elsewhere = λ u ne. elsewhere_arrive u t ks answers ne;
+        brought = brought_arrive t ks answers (omega (arith, same, le)) ∙ bring;
+        entrusted = λ id. entrusted_arrive t id b ks answers fits own (omega (arith, same, le));
+        entrusted_elsewhere = λ u id ne. entrusted_else u t id ks answers ne;
+        takeable = takeable_arrive t n b ks answers lt fits own;
+      }
+
+  -- with the answer to a Bye nothing arrives
+  pub none_arrives : (t n : ℕ) (b : List (Request V O R T)) (answers : List (Answer V O R T)) → asks_in b ≡ [] → Arrives t n b [] answers
+  none_arrives t n b answers none = record {
+    many = sym (ap length none);
+    here = sym (ap length none);
+    elsewhere = λ u ne. refl;
+    brought = sym (ap bringing none) ∙ asks_bring b;
+    entrusted = λ id. sym (none_asked id b answers none);
+    entrusted_elsewhere = λ u id ne. refl;
+    takeable = tt;
+  }

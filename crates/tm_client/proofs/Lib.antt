@@ -1,0 +1,16 @@
+pub mod Accepting
+pub mod Arriving
+pub mod Asked
+pub mod Bringing
+pub mod Elements
+pub mod Fronts
+pub mod GiftTaken
+pub mod Going
+pub mod Leaving
+pub mod Living
+pub mod Marked
+pub mod Moving
+pub mod Receiving
+pub mod Seeing
+pub mod Sending
+pub mod Taken

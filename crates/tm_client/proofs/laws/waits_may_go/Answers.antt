@@ -1,0 +1,5 @@
+use Rattle.tm_client.proofs.Going as proof
+use Rattle.tm_client.proofs.laws.waits_may_go.Goals as goal
+
+pub returns : goal.returns
+returns g c = proof.waits_may_go g.S.Entrusted.kind

@@ -1,0 +1,11 @@
+pub mod Asking
+pub mod Clients
+pub mod Due
+pub mod Lanes
+pub mod Marking
+pub mod Posting
+pub mod Receiving
+pub mod Sending
+pub mod SideLaws
+pub mod Taking
+pub mod Turns

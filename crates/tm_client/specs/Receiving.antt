@@ -1,0 +1,32 @@
+-- What a client keeps of what came of a trustee.
+use Rattle.std.specs.Prelude.{◌≡◌, ℕ, ◌+◌, false, ◌++◌, length, drop, slice_get, slice_set}
+use Rattle.std.specs.declared.option.Option.TheVariants.{Some}
+use Rattle.tm_batch.specs.declared.message.AnswerBatch.{AnswerBatch}
+use Rattle.tm_client.specs.declared.lane.Lane.{Lane}
+use Rattle.tm_client.specs.declared.books.Books.{Books}
+use Rattle.tm_client.specs.Turns.{arrivals_of, gifts_from}
+
+module _ {V O R T C D : Type 0} where
+  -- the answers a of trustee t were taken in: each continuation of what was out arrives with the answer to its own request, behind what
+  -- arrived before, and so do the gifts
+  pub record HasReceived (t : ℕ) (a : AnswerBatch V O R T) (lane becomes : Lane V C D O R T) (old new : Books V C D O R T) : Type 0 where
+    pub of_lane : slice_get old.lanes.items t ≡ Some lane
+    pub lanes : new.lanes.items ≡ slice_set old.lanes.items t becomes
+    pub waits : becomes.waits ≡ lane.waits
+    pub afters : becomes.afters.items ≡ drop (length a.answers.items) lane.afters.items
+    pub afters_room : becomes.afters.capacity ≡ lane.afters.capacity
+    pub counting : becomes.counting ≡ lane.counting
+    pub fetching : becomes.fetching ≡ lane.fetching
+    pub closing : becomes.closing ≡ lane.closing
+    pub said : becomes.said ≡ lane.said
+    pub out : becomes.out ≡ false
+    pub room : becomes.room ≡ 0
+    pub arrived : new.arrived.items ≡ old.arrived.items ++ arrivals_of t lane.afters.items a.answers.items
+    pub arrived_room : new.arrived.capacity ≡ old.arrived.capacity
+    pub gifts : new.gifts.items ≡ old.gifts.items ++ gifts_from t old.number a.gifts.items
+    pub gifts_room : new.gifts.capacity ≡ old.gifts.capacity
+    pub coming : new.coming + lane.room ≡ old.coming + length a.gifts.items
+    pub held : new.held ≡ old.held
+    pub number : new.number ≡ old.number
+    pub clients : new.clients ≡ old.clients
+    pub most : new.most ≡ old.most

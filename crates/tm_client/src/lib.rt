@@ -1,0 +1,26 @@
+//! A client of the trustees: its trusts, its requests that wait, and the answers that came.
+//!
+//! A [`Client`] has a side at each trustee's table. A call as [`Client::apply_then`] accepts a request
+//! and a continuation, or refuses it and hands both back. [`Client::next`] hands out each continuation with
+//! the answer to its own request. No call here allocates, and none waits.
+#![tactic(auto)]
+
+mod answers;
+mod asks;
+mod books;
+mod client;
+mod due;
+mod lane;
+mod laws;
+mod marking;
+mod post;
+mod taking;
+mod trust;
+mod turn;
+mod turning;
+
+pub use answers::{Arrival, Got, Refused, Turn, Why};
+pub use books::Books;
+pub use client::Client;
+pub use lane::Lane;
+pub use trust::{Hold, Trust};

@@ -1,0 +1,107 @@
+//! The calls of a client that hand out what came.
+ghost use Rattle.std.specs.Prelude.{◌≡◌, ℕ, ◌+◌, ◌<◌, ◌≤◌, [], ◌∷◌, ◌++◌, length, vec_capacity, MatchOption};
+ghost use Rattle.tm_model.specs.State.{State};
+ghost use Rattle.tm_client.specs.Clients.{IsClient, IsTakeable, brings};
+ghost use Rattle.tm_client.specs.Taking.{IsGot, HasTaken, HasTakenGift, hold_of, holds_by};
+
+use crate::answers::Got;
+use crate::books::Books;
+use crate::client::Client;
+use crate::trust::{Hold, Trust};
+use tm_batch::{Answer, Name};
+use tm_pair::{FitsBatches, PairTable};
+
+/// Puts a trust of trustee `trustee` into a client's list.
+fn hold(held: &mut Vec<Hold>, client: u32, trustee: u32, name: Name) -> Trust
+    requires room { length held.old.items < vec_capacity held.old }
+    ensures held { held.new.items ≡ held.old.items ++ hold_of trustee name ∷ [] }
+    ensures capacity { vec_capacity held.new ≡ vec_capacity held.old }
+    ensures trust { result ≡ record { trustee = trustee; name = name; client = client; at = length held.old.items } }
+{
+    let at = held.len();
+    held.push_reserved(Hold {
+        trustee,
+        id: name.id,
+    });
+    Trust {
+        trustee,
+        name,
+        client,
+        at,
+    }
+}
+
+/// What is handed out for an answer. A trust that it brings is put into the client's list, and fewer may come then.
+fn got_of<S: FitsBatches>(
+    held: &mut Vec<Hold>,
+    coming: &mut u32,
+    client: u32,
+    trustee: u32,
+    answer: Answer<S>,
+) -> Got<S>
+    requires takeable { IsTakeable answer }
+    requires coming { brings answer ≤ coming.old }
+    requires room { length held.old.items + brings answer ≤ vec_capacity held.old }
+    ensures got { IsGot trustee client (length held.old.items) answer result }
+    ensures held { held.new.items ≡ held.old.items ++ holds_by trustee answer }
+    ensures capacity { vec_capacity held.new ≡ vec_capacity held.old }
+    ensures coming { coming.old ≡ coming.new + brings answer }
+{
+    match answer {
+        Answer::Entrusted(name) => {
+            *coming -= 1;
+            Got::Entrusted(hold(held, client, trustee, name))
+        }
+        Answer::NotEntrusted(refusal, value) => {
+            *coming -= 1;
+            Got::NotEntrusted(refusal, value)
+        }
+        Answer::Replied(reply) => Got::Replied(reply),
+        Answer::Granted => Got::Granted,
+        Answer::Gone => Got::Gone,
+        Answer::GiftsFull => Got::GiftsFull,
+        Answer::Released => Got::Released,
+        Answer::Launched(_)
+        | Answer::TicketsSpent(_)
+        | Answer::Reclaimed(_)
+        | Answer::Shared
+        | Answer::ByeDone => unreachable!(),
+    }
+}
+
+impl<S: FitsBatches, C: Drop, P: PairTable<S>> Client<S, C, P> {
+    /// The continuation of the answer that came first and was not taken, with what came; `None` where none waits.
+    pub fn next(&mut self) -> Option<(C, Got<S>)>
+        requires client { (openings : ℕ → State S S.Op S.Reply S.Task) × IsClient P.theory.client_view openings self.old.books }
+        ensures next { MatchOption result ((self.old.books.arrived.items ≡ []) × (self.new ≡ self.old)) (λ taken. HasTaken taken.0 taken.1 self.old.books self.new.books) }
+        ensures client { (openings : ℕ → State S S.Op S.Reply S.Task) → IsClient P.theory.client_view openings self.old.books → IsClient P.theory.client_view openings self.new.books }
+    {
+        let books = &mut self.books;
+        let Some(arrival) = books.arrived.pop_front() else {
+            return None;
+        };
+        books.lanes[arrival.trustee as usize].counting -= 1;
+        let got = got_of(
+            &mut books.held,
+            &mut books.coming,
+            books.number,
+            arrival.trustee,
+            arrival.answer,
+        );
+        Some((arrival.after, got))
+    }
+
+    /// The trust of the gift that came first and was not taken; `None` where none is there.
+    pub fn take_gift(&mut self) -> Option<Trust>
+        requires client { (openings : ℕ → State S S.Op S.Reply S.Task) × IsClient P.theory.client_view openings self.old.books }
+        ensures gift { MatchOption result ((self.old.books.gifts.items ≡ []) × (self.new ≡ self.old)) (λ gift. HasTakenGift gift self.old.books self.new.books) }
+        ensures client { (openings : ℕ → State S S.Op S.Reply S.Task) → IsClient P.theory.client_view openings self.old.books → IsClient P.theory.client_view openings self.new.books }
+    {
+        let books = &mut self.books;
+        let Some(gift) = books.gifts.pop_front() else {
+            return None;
+        };
+        books.coming -= 1;
+        Some(hold(&mut books.held, gift.client, gift.trustee, gift.name))
+    }
+}

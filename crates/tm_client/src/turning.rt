@@ -1,0 +1,87 @@
+//! What a turn does with batches.
+ghost use Rattle.std.specs.Prelude.{◌≡◌, ◌+◌, ◌-◌, ◌<◌, ◌≤◌, [], ◌∷◌, ◌++◌, length, drop, take, min};
+ghost use Rattle.tm_batch.specs.declared.limits.TheConstants.{MOST_REQUESTS, MOST_ROOM};
+ghost use Rattle.tm_client.specs.Turns.{arrivals_of, gifts_from};
+
+use crate::answers::Arrival;
+use crate::trust::Trust;
+use arrayvec::ArrayVec;
+use circular_buffer::HeapCircularBuffer;
+use tm_batch::{Answer, MOST_REQUESTS, Name};
+use tm_pair::FitsBatches;
+
+/// Lets the first of some continuations, if there is one, arrive with an answer.
+fn arrive_first<S: FitsBatches, C: Drop>(
+    trustee: u32,
+    answer: Answer<S>,
+    afters: &mut HeapCircularBuffer<C>,
+    arrived: &mut HeapCircularBuffer<Arrival<S, C>>,
+)
+    requires room { length arrived.old.items + min 1 (length afters.old.items) ≤ arrived.old.capacity }
+    ensures arrived { arrived.new.items ≡ arrived.old.items ++ arrivals_of trustee afters.old.items (answer ∷ []) }
+    ensures capacity { arrived.new.capacity ≡ arrived.old.capacity }
+    ensures afters { afters.new.items ≡ drop 1 afters.old.items }
+    ensures afters_room { afters.new.capacity ≡ afters.old.capacity }
+{
+    if let Some(after) = afters.pop_front() {
+        let _ = arrived.try_push_back(Arrival {
+            trustee,
+            after,
+            answer,
+        });
+    }
+}
+
+/// Lets each of some continuations arrive with the answer of its position.
+pub(crate) fn arrive<S: FitsBatches, C: Drop>(
+    trustee: u32,
+    answers: ArrayVec<Answer<S>, MOST_REQUESTS>,
+    afters: &mut HeapCircularBuffer<C>,
+    arrived: &mut HeapCircularBuffer<Arrival<S, C>>,
+)
+    requires room { length arrived.old.items + min (length answers.items) (length afters.old.items) ≤ arrived.old.capacity }
+    ensures arrived { arrived.new.items ≡ arrived.old.items ++ arrivals_of trustee afters.old.items answers.items }
+    ensures capacity { arrived.new.capacity ≡ arrived.old.capacity }
+    ensures afters { afters.new.items ≡ drop (length answers.items) afters.old.items }
+    ensures afters_room { afters.new.capacity ≡ afters.old.capacity }
+{
+    let mut answers = answers;
+    while !answers.is_empty() {
+        let answer = answers.remove(0);
+        arrive_first(trustee, answer, afters, arrived);
+    }
+}
+
+/// Lets gifts of trustee `trustee` wait to be taken.
+pub(crate) fn receive(
+    trustee: u32,
+    client: u32,
+    names: ArrayVec<Name, 16>,
+    gifts: &mut HeapCircularBuffer<Trust>,
+)
+    requires room { length gifts.old.items + length names.items ≤ gifts.old.capacity }
+    ensures gifts { gifts.new.items ≡ gifts.old.items ++ gifts_from trustee client names.items }
+    ensures capacity { gifts.new.capacity ≡ gifts.old.capacity }
+{
+    let mut names = names;
+    while !names.is_empty() {
+        let name = names.remove(0);
+        let _ = gifts.try_push_back(Trust {
+            trustee,
+            name,
+            client,
+            at: 0,
+        });
+    }
+}
+
+/// As many as are free, at most 16.
+pub(crate) fn room_of(most: u32, held: usize, coming: u32) -> u32
+    requires { held + coming ≤ most }
+    ensures value { result ≡ min (most - (held + coming)) MOST_ROOM }
+    ensures most { result ≤ MOST_ROOM }
+    ensures fits { held + (coming + result) ≤ most }
+{
+    let free = most - held as u32 - coming;
+    if free < 16 { free } else { 16 }
+}
