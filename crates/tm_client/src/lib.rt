@@ -3,6 +3,9 @@
 //! A [`Client`] has a side at each trustee's table. A call as [`Client::apply_then`] accepts a request
 //! and a continuation, or refuses it and hands both back. [`Client::next`] hands out each continuation with
 //! the answer to its own request. No call here allocates, and none waits.
+//!
+//! What publishes and collects, and what makes a client, is to come: so nothing outside this crate makes one yet.
+//! The laws of a client's side ([`collects_bring`] and its kin) speak of no client and hold for every kind.
 #![tactic(auto)]
 
 mod answers;
@@ -23,4 +26,7 @@ pub use answers::{Arrival, Got, Refused, Turn, Why};
 pub use books::Books;
 pub use client::Client;
 pub use lane::Lane;
+pub use laws::{
+    answers_are_of_entries, byes_may_go, collects_bring, held_is_live, rest_is_held, waits_may_go,
+};
 pub use trust::{Hold, Trust};

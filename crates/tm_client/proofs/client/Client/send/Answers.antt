@@ -56,26 +56,26 @@ returns-clause-client g c = λ openings same is.
     let fits = c.room_of-room.ensures.fits in
     let many = c.len.ensures in
     sending_keeps g.S.Entrusted.kind theory.client_view openings c.args.trustee posts.batch.requests.items c.room_of-room.result lane c.post_due-count.new.lane books _ is (
-      record {
-        of_lane = there;
-        lanes = refl;
-        goes = left_goes posts.batch.requests.items lane c.post_due-count.new.lane posts.leaves;
-        waits_room = posts.waits_room;
-        afters = posts.afters;
-        counting = posts.counting;
-        fetching = posts.fetching;
-        closing = posts.closing;
-        out = posts.out;
-        room_of = posts.room_of;
-        coming = refl;
-        fits = omega (arith, fits, many);
-        arrived = refl;
-        gifts = refl;
-        held = refl;
-        number = refl;
-        clients = refl;
-        most = refl;
-      }
+    record {
+      of_lane = there;
+      lanes = refl;
+      goes = left_goes posts.batch.requests.items lane c.post_due-count.new.lane posts.leaves;
+      waits_room = posts.waits_room;
+      afters = posts.afters;
+      counting = posts.counting;
+      fetching = posts.fetching;
+      closing = posts.closing;
+      out = posts.out;
+      room_of = posts.room_of;
+      coming = refl;
+      fits = omega (arith, fits, many);
+      arrived = refl;
+      gifts = refl;
+      held = refl;
+      number = refl;
+      clients = refl;
+      most = refl;
+    }
     ) good free posts.publishes
 
 pub returns-clause-turned : goal.returns-clause-turned
