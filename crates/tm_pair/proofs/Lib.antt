@@ -9,3 +9,4 @@ mod Returning
 pub mod Standing
 pub mod Stepping
 mod Tabling
+mod Telling

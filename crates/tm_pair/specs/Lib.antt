@@ -1,4 +1,5 @@
 pub mod Calls
+pub mod Meets
 pub mod Moves
 pub mod Opened
 pub mod Places

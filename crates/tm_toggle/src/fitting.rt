@@ -4,8 +4,8 @@ ghost use Rattle.std.proofs.Common.{lit<};
 ghost use Rattle.tm_toggle.specs.contracts.content.Content.{the_row as content_row};
 ghost use Rattle.tm_toggle.specs.contracts.view.View.{the_row as view_row};
 
+use tm_batch::Fits;
 use tm_pair::FitsBatches;
-use tm_seq::Counter;
 
 /// A kind of which a table for many threads can be made.
 pub trait Shareable: FitsBatches {
@@ -16,8 +16,8 @@ pub trait Shareable: FitsBatches {
     ghost fits_view: { FitsInMemory (view_row Self.row Self.Op.row Self.Reply.row Self.Task.row) };
 }
 
-impl Shareable for Counter {
-    ghost fits_content = { lit< tt };
+impl<S: Fits> Shareable for S {
+    ghost fits_content = { S.fits_content };
 
     ghost fits_view = { lit< tt };
 }

@@ -1,15 +1,15 @@
 //! Sides of a table for many threads meet by notes.
 ghost use Rattle.std.specs.Prelude.{◌≡◌, OnOk, IsOk};
-ghost use Rattle.tm_toggle.specs.Meets.{Meets, Follows};
+ghost use Rattle.tm_pair.specs.Meets.{Meets, Follows};
 ghost use Rattle.tm_toggle.specs.Plays.{Compares};
 ghost use Rattle.tm_toggle.specs.Shared.{client_at, trustee_at, client_past, trustee_past, IsClientOf, IsTrusteeOf};
 
 use crate::fitting::Shareable;
-use crate::meet::Meet;
 use crate::ruling::{ClientNote, Compare, Follow, TakesNote, TrusteeNote};
 use crate::shared::SharedTable;
 use crate::sides::{SharedClient, SharedTrustee};
 use std::alloc::AllocError;
+use tm_pair::Meet;
 
 impl<S: Shareable> Meet<S> for SharedTable<S> {
     /// Two notes, one in each direction, and six loads. It is never refused.

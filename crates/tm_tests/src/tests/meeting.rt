@@ -12,9 +12,9 @@ use std::alloc::{AllocError, Global};
 use std::process::Abort;
 use std::test::Fail;
 use tm_batch::{Config, First, Holders};
-use tm_pair::{Collected, PlainClient, PlainTable, PlainTrustee, once_round};
+use tm_pair::{Collected, Meet, PlainClient, PlainTable, PlainTrustee, once_round};
 use tm_seq::Counter;
-use tm_toggle::{Meet, SharedClient, SharedTable, SharedTrustee};
+use tm_toggle::{SharedClient, SharedTable, SharedTrustee};
 
 const TWO_CLIENTS: Config = Config {
     clients: 2,

@@ -11,7 +11,7 @@ use Rattle.tm_pair.specs.Plain.{opening_at, core_at, client_at, trustee_at, IsTa
 use Rattle.tm_pair.specs.declared.plain.PlainTable.{PlainTable}
 use Rattle.tm_pair.specs.declared.plain.PlainClient.{PlainClient}
 use Rattle.tm_pair.specs.declared.plain.PlainTrustee.{PlainTrustee}
-use Rattle.tm_toggle.specs.Meets.{Meets, Follows}
+use Rattle.tm_pair.specs.Meets.{Meets, Follows}
 
 module _ {V O R T : Type 0} (kind : Kind V O R T) (table : PlainTable V O R T) where
   slot_in_range : (c : ℕ) → IsTable kind table → c < place_count (opening_at table).setup → c < length (core_at table).slots

@@ -1,5 +1,5 @@
-use Rattle.tm_toggle.proofs.Telling.{clients_meet}
-use Rattle.tm_toggle.proofs.meeting_plain.PlainTableMeet.compare.Goals as goal
+use Rattle.tm_pair.proofs.Telling.{clients_meet}
+use Rattle.tm_pair.proofs.meeting.PlainTableMeet.compare.Goals as goal
 
 pub returns-clause-ok : goal.returns-clause-ok
 returns-clause-ok g c =

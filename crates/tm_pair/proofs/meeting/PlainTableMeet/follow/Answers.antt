@@ -1,5 +1,5 @@
-use Rattle.tm_toggle.proofs.Telling.{side_follows}
-use Rattle.tm_toggle.proofs.meeting_plain.PlainTableMeet.follow.Goals as goal
+use Rattle.tm_pair.proofs.Telling.{side_follows}
+use Rattle.tm_pair.proofs.meeting.PlainTableMeet.follow.Goals as goal
 
 pub returns-clause-ok : goal.returns-clause-ok
 returns-clause-ok g c =

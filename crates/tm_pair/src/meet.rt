@@ -1,9 +1,9 @@
 //! What sides of one table tell of each other when they meet.
 ghost use Rattle.std.specs.Prelude.{◌≡◌, OnOk};
-ghost use Rattle.tm_toggle.specs.Meets.{Meets, Follows};
+ghost use Rattle.tm_pair.specs.Meets.{Meets, Follows};
 
 use std::alloc::AllocError;
-use tm_pair::PairTable;
+use crate::table::PairTable;
 use tm_seq::Entrusted;
 
 /// A table at which two sides may meet. A call tells what their logs have to do with each other; it

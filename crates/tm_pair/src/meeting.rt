@@ -1,11 +1,12 @@
 //! Sides of a table in one thread meet at its one core.
 ghost use Rattle.std.specs.Prelude.{◌≡◌, OnOk, IsOk};
-ghost use Rattle.tm_toggle.specs.Meets.{Meets, Follows};
+ghost use Rattle.tm_pair.specs.Meets.{Meets, Follows};
 ghost use Rattle.tm_pair.specs.Plain.{client_at, trustee_at, IsClientOf, IsTrusteeOf};
 
+use crate::fits_table::FitsTable;
 use crate::meet::Meet;
+use crate::plain::{PlainClient, PlainTable, PlainTrustee};
 use std::alloc::AllocError;
-use tm_pair::{FitsTable, PlainClient, PlainTable, PlainTrustee};
 
 impl<S: FitsTable> Meet<S> for PlainTable<S> {
     /// Nothing runs: the table's core is good, and shows what both have seen. It is never refused.
