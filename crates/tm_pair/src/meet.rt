@@ -2,8 +2,8 @@
 ghost use Rattle.std.specs.Prelude.{◌≡◌, OnOk};
 ghost use Rattle.tm_pair.specs.Meets.{Meets, Follows};
 
-use std::alloc::AllocError;
 use crate::table::PairTable;
+use std::alloc::AllocError;
 use tm_seq::Entrusted;
 
 /// A table at which two sides may meet. A call tells what their logs have to do with each other; it
