@@ -1,10 +1,9 @@
 //! Keys of items.
-ghost use Rattle.std.specs.Prelude.{◌≡◌, ◌↔◌, ◌≤◌, length, nat_eq, refl, true, false, IfOk, IsErrOf};
+ghost use Rattle.std.specs.Prelude.{◌≡◌, ◌↔◌, ◌≤◌, [], ◌∷◌, length, nat_eq, refl, true, false, IfOk, IsErrOf};
 ghost use Rattle.std.specs.Ordering.{nat_cmp, as_partial_cmp};
 ghost use Rattle.std.specs.Cmp.Lexicographic.{pointwise, slice_cmp};
 ghost use Rattle.std.specs.Cmp.{partial_order_from_own_ties};
 ghost use Rattle.std.specs.Cmp.Rules.{comparing, hashing};
-ghost use Rattle.std.specs.Hash as fed;
 ghost use Rattle.std.proofs.Common.{rules};
 ghost use Rattle.mc_item.specs.Keys.{is_key_byte, is_key};
 ghost use Rattle.mc_item.specs.Forms.{bytes_of};
@@ -194,12 +193,13 @@ impl Ord for Key {
 }
 
 impl Hash for Key {
-    ghost hash_input = { λ key. fed.slice fed.u8 key };
+    ghost hash_input = { λ key. key ∷ [] };
 
     ghost respects_eq = { Prim.search (hashing, rules) };
 
+    // One write of all bytes: a slice of bytes would be written one by one.
     fn hash<H: Hasher>(&self, state: &mut H) {
-        self.get().hash(state);
+        state.write(self.get());
     }
 }
 
