@@ -1,4 +1,5 @@
 pub mod Classes
 pub mod Expiry
+pub mod Forms
 pub mod Keys
 pub mod Numbers

@@ -1,14 +1,14 @@
 //! Keys of items.
-ghost use Rattle.std.specs.Prelude.{◌≡◌, ◌↔◌, length, nat_eq, refl, true, false, IfOk, IsErrOf};
+ghost use Rattle.std.specs.Prelude.{◌≡◌, ◌↔◌, ◌≤◌, [], ◌∷◌, length, nat_eq, refl, true, false, IfOk, IsErrOf};
 ghost use Rattle.std.specs.Ordering.{nat_cmp, as_partial_cmp};
 ghost use Rattle.std.specs.Cmp.Lexicographic.{pointwise, slice_cmp};
 ghost use Rattle.std.specs.Cmp.{partial_order_from_own_ties};
 ghost use Rattle.std.specs.Cmp.Rules.{comparing, hashing};
-ghost use Rattle.std.specs.Hash as fed;
 ghost use Rattle.std.proofs.Common.{rules};
 ghost use Rattle.mc_item.specs.Keys.{is_key_byte, is_key};
+ghost use Rattle.mc_item.specs.Forms.{bytes_of};
 
-use crate::bytes::Bytes;
+use crate::inline::Inline;
 use crate::limits::LONGEST_KEY;
 use std::alloc::{AllocError, Global};
 use std::cmp::Ordering;
@@ -17,22 +17,38 @@ use std::hash::{Hash, Hasher};
 use std::marker::Model;
 use thiserror::Error;
 
+// The most bytes of a key that stands in place: it weighs as much as a pointer with two numbers.
+const SHORT: usize = 22;
+
+// The most bytes of a key whose block is one of 64 bytes, with the allocator's own eight.
+const MIDDLE: usize = 55;
+
+// Where the bytes of a key stand: in place, or in one block.
+#[derive(Drop)]
+enum Form {
+    Short(Inline<SHORT>),
+    Middle(Box<Inline<MIDDLE>>),
+    Long(Box<Inline<LONGEST_KEY>>),
+}
+
 /// A key: 1 to 250 bytes, none of them 0 to 32 or 127, as memcached's protocol.txt asks. A
 /// contract sees the list of the bytes. Keys are ordered as their bytes are, the first byte first.
+/// A key of up to 22 bytes has no block of memory, a longer one has one.
 #[derive(Drop)]
 pub struct Key {
-    inner: Bytes,
+    form: Form,
 }
 
 impl Model for Key {
     ghost use Rattle.std.specs.Prelude.{◌≡◌, List, ℕ, true};
     ghost use Rattle.mc_item.specs.Keys.{is_key};
+    ghost use Rattle.mc_item.specs.Forms.{bytes_of};
 
     ghost Value = { List ℕ };
 
-    ghost view = { λ a. a.inner };
+    ghost view = { λ a. bytes_of a.form };
 
-    ghost invariant = { λ a. is_key a.inner ≡ true };
+    ghost invariant = { λ a. is_key (bytes_of a.form) ≡ true };
 }
 
 /// Why bytes made no key.
@@ -63,6 +79,46 @@ pub fn is_key(bytes: &[u8]) -> bool
     bytes.iter().all(|byte| is_key_byte(*byte))
 }
 
+impl Form {
+    // A copy of some bytes.
+    fn of(alloc: Global, from: &[u8]) -> Result<Form, AllocError>
+        requires { length from.now ≤ LONGEST_KEY }
+        ensures { IfOk result (λ form. bytes_of form ≡ from.now) }
+    {
+        if from.len() <= SHORT {
+            Ok(Form::Short(Inline::of(from)))
+        } else if from.len() <= MIDDLE {
+            Ok(Form::Middle(Box::new(alloc, Inline::of(from))?))
+        } else {
+            Ok(Form::Long(Box::new(alloc, Inline::of(from))?))
+        }
+    }
+
+    fn get(&self) -> &[u8]
+        ensures { result.now ≡ bytes_of self.now }
+    {
+        match self {
+            Form::Short(bytes) => bytes.get(),
+            Form::Middle(bytes) => bytes.get(),
+            Form::Long(bytes) => bytes.get(),
+        }
+    }
+
+    // A copy, whose block, if it has one, is of the same allocator.
+    fn copy(&self) -> Result<Form, AllocError>
+        ensures { IfOk result (λ form. bytes_of form ≡ bytes_of self.now) }
+    {
+        match self {
+            Form::Short(bytes) => Ok(Form::Short(bytes.copy())),
+            Form::Middle(bytes) => Ok(Form::Middle(Box::new(
+                *Box::allocator(bytes),
+                bytes.copy(),
+            )?)),
+            Form::Long(bytes) => Ok(Form::Long(Box::new(*Box::allocator(bytes), bytes.copy())?)),
+        }
+    }
+}
+
 impl Key {
     /// A copy of some bytes, as a key. `BadKey` comes first.
     pub fn of(alloc: Global, from: &[u8]) -> Result<Key, KeyRefused>
@@ -73,8 +129,8 @@ impl Key {
         if !is_key(from) {
             return Err(KeyRefused::BadKey);
         }
-        match Bytes::of(alloc, from) {
-            Ok(inner) => Ok(Key { inner }),
+        match Form::of(alloc, from) {
+            Ok(form) => Ok(Key { form }),
             Err(AllocError) => Err(KeyRefused::NoMemory),
         }
     }
@@ -84,7 +140,7 @@ impl Key {
         ensures value { result.now ≡ self.now }
         ensures lawful { is_key self.now ≡ true }
     {
-        self.inner.get()
+        self.form.get()
     }
 }
 
@@ -93,7 +149,7 @@ impl Clone for Key {
 
     fn clone(&self) -> Result<Key, AllocError> {
         Ok(Key {
-            inner: self.inner.clone()?,
+            form: self.form.copy()?,
         })
     }
 }
@@ -104,7 +160,7 @@ impl PartialEq for Key {
     ghost laws = { Prim.search (comparing, rules) };
 
     fn eq(&self, other: &Key) -> bool {
-        self.inner == other.inner
+        self.get() == other.get()
     }
 }
 
@@ -132,22 +188,24 @@ impl Ord for Key {
     ghost matches_eq = { Prim.search (comparing, rules) };
 
     fn cmp(&self, other: &Key) -> Ordering {
-        self.inner.get().cmp(other.inner.get())
+        self.get().cmp(other.get())
     }
 }
 
 impl Hash for Key {
-    ghost hash_input = { λ key. fed.slice fed.u8 key };
+    ghost hash_input = { λ key. key ∷ [] };
 
     ghost respects_eq = { Prim.search (hashing, rules) };
 
+    // One write of all bytes: a slice of bytes would be written one by one.
     fn hash<H: Hasher>(&self, state: &mut H) {
-        self.inner.get().hash(state);
+        state.write(self.get());
     }
 }
 
+/// As a byte string of Rust, as in `b"a"`.
 impl fmt::Debug for Key {
     fn fmt<W: fmt::Write>(&self, f: &mut fmt::Formatter<W>) -> fmt::Result {
-        self.inner.fmt(f)
+        write!(f, "b\"{}\"", self.get().escape_ascii())
     }
 }

@@ -5,6 +5,7 @@
 mod bytes;
 mod class;
 mod expiry;
+mod inline;
 mod key;
 mod limits;
 pub mod number;

@@ -5,6 +5,7 @@ use crate::expiry::{Expiry, due, expired};
 use crate::key::{Key, KeyRefused, is_key};
 use crate::number::{exptime, number};
 use std::collections::{BTreeMap, HashMap};
+use std::mem::size_of;
 use std::test::Fail;
 
 #[test]
@@ -56,6 +57,13 @@ fn keys_and_their_classes(rt: HostRuntime) -> Result<(), Fail> {
         assert_eq!(rt; key.get(), text);
         assert_eq!(rt; class_of(&key), class, "of {key:?}");
     }
+    // (a key of up to 22 bytes has no block, one of up to 55 a small one)
+    for length in [1, 22, 23, 55, 56, 250] {
+        let key = Key::of(alloc, &long[..length])?;
+        assert_eq!(rt; key.get(), &long[..length]);
+        assert_eq!(rt; key.clone()?.get(), &long[..length]);
+    }
+    assert_eq!(rt; size_of::<Key>(), 24);
     let shown = format!(in alloc; "{} {}", KeyRefused::BadKey, KeyRefused::NoMemory)?;
     assert_eq!(rt; shown.as_str(), "BadKey NoMemory");
     Ok(())

@@ -191,9 +191,16 @@ set-same (e ∷ items) key v h = (elim (same_key key e.0) as (λ b. cond b (Some
 ]) h
 
 -- what is written through a reference, in the one form and the other
-pub wrote_first : (items : Items) (key : List ℕ) (change : Item → Item) (v : Item) → AreApart items → Some v ≡ item_at items key
+wrote_first : (items : Items) (key : List ℕ) (change : Item → Item) (v : Item) → AreApart items → Some v ≡ item_at items key
     → IfSome (item_at items key) (λ item. set_value (same_key key) (promoted (same_key key) items) (change v) ≡ first items key (change item))
 wrote_first items key change v apart h = subst (λ o. IfSome o (λ item. set_value (same_key key) (promoted (same_key key) items) (change v) ≡ first items key (change item))) h (written_first items key v (change v) apart (sym h))
+
+-- the same, of what was written
+pub written_as : (items : Items) (key : List ℕ) (change : Item → Item) (v w : Item) → AreApart items → Some v ≡ item_at items key → w ≡ change v
+    → IfSome (item_at items key) (λ item. set_value (same_key key) (promoted (same_key key) items) w ≡ first items key (change item))
+written_as items key change v w apart h is =
+    subst (λ x. IfSome (item_at items key) (λ item. set_value (same_key key) (promoted (same_key key) items) x ≡ first items key (change item))) (sym is)
+    (wrote_first items key change v apart h)
 
 pub wrote_then_first : (items new : Items) (key : List ℕ) (change : Item → Item) (v : Item) → AreApart items → Some v ≡ item_at items key
     → new ≡ promoted (same_key key) (set_value (same_key key) items (change v)) → IfSome (item_at items key) (λ item. new ≡ first items key (change item))

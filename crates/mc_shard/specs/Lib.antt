@@ -1,3 +1,4 @@
 pub mod Kept
-pub mod Shard
 pub mod Laws
+pub mod Shard
+pub mod Stays

@@ -6,14 +6,14 @@ ghost use Rattle.mc_model.specs.Items.{same_key, item_at, first, without};
 ghost use Rattle.mc_model.specs.Rows.{with_due, with_value};
 ghost use Rattle.mc_shard.specs.Kept.{due_of, appended, prepended};
 
+use crate::item::KeptItem;
 use lru::LruCache;
 use mc_item::{Bytes, Expiry, Key};
-use mc_model::Item;
 use std::alloc::AllocError;
 use std::hash::RandomState;
 
 /// The items of a class, the most recently used first. Its own bound is out of reach.
-pub(crate) type Cache = LruCache<Key, Item, RandomState>;
+pub(crate) type Cache = LruCache<Key, KeptItem, RandomState>;
 
 /// Makes the item of a key the first.
 pub(crate) fn use_item(cache: &mut Cache, key: &Key)
@@ -33,8 +33,8 @@ pub(crate) fn set_due(cache: &mut Cache, key: &Key, due: Expiry) -> Expiry
 {
     match cache.get_mut(key) {
         Some(item) => {
-            let old = item.due;
-            item.due = due;
+            let old = item.due();
+            item.set_due(due);
             old
         }
         None => Expiry::Never,
@@ -48,8 +48,7 @@ pub(crate) fn rewrite(cache: &mut Cache, key: &Key, value: Bytes, cas: u64)
     ensures cap { cache.new.cap ≡ cache.old.cap }
 {
     if let Some(item) = cache.get_mut(key) {
-        item.value = value;
-        item.cas = cas;
+        item.set_value(value, cas);
     }
 }
 
@@ -63,8 +62,7 @@ pub(crate) fn append(cache: &mut Cache, key: &Key, more: &[u8], cas: u64) -> Res
     let Some(item) = cache.peek_mut(key) else {
         return Ok(());
     };
-    item.value.extend(more)?;
-    item.cas = cas;
+    item.append(more, cas)?;
     cache.promote(key);
     Ok(())
 }
@@ -80,14 +78,13 @@ pub(crate) fn prepend(cache: &mut Cache, key: &Key, more: &[u8], cas: u64) -> Re
     let Some(item) = cache.peek_mut(key) else {
         return Ok(());
     };
-    item.value.prepend(more)?;
-    item.cas = cas;
+    item.prepend(more, cas)?;
     cache.promote(key);
     Ok(())
 }
 
 /// Takes an item out, with its key.
-pub(crate) fn take_out(cache: &mut Cache, key: &Key) -> Option<(Key, Item)>
+pub(crate) fn take_out(cache: &mut Cache, key: &Key) -> Option<(Key, KeptItem)>
     requires { IsDistinct same_key (keys_of cache.old.entries) }
     ensures item { option_map (λ e. e.1) result ≡ item_at cache.old.entries key.now }
     ensures key { IfSome result (λ e. e.0 ≡ key.now) }

@@ -1,7 +1,8 @@
 //! The index of when each item goes, and what it takes out.
 ghost use Rattle.std.specs.Prelude.{◌≡◌, ◌<◌, ◌≤◌, ◌+◌, true, false, if◌then◌else◌, OnOk, OnErr, IfSome, IfNone, slice_get, is_some};
 ghost use Rattle.std.specs.BTreeSet.{btree_set_len};
-ghost use Rattle.mc_model.specs.Items.{live};
+ghost use Rattle.std.specs.Map.{remove_entry};
+ghost use Rattle.mc_model.specs.Items.{same_key, live};
 ghost use Rattle.mc_shard.specs.Kept.{goes_at, GainsEntry, LosesEntry, IsAhead, TakesDue, IsPaired};
 
 use crate::cache::Cache;
@@ -75,6 +76,14 @@ fn pop_due(index: &mut BTreeSet<(u64, Key)>, now: u64) -> Option<Key>
     Some(key)
 }
 
+// Lets the item of a key go.
+fn let_go(cache: &mut Cache, key: Key)
+    ensures entries { cache.new.entries ≡ remove_entry (same_key key) cache.old.entries }
+    ensures cap { cache.new.cap ≡ cache.old.cap }
+{
+    cache.pop(&key);
+}
+
 /// Takes out what is expired. The cost is that of the entries whose moment has come.
 pub(crate) fn sweep(cache: &mut Cache, index: &mut BTreeSet<(u64, Key)>, now: u64)
     requires { IsPaired cache.old.entries index.old.keys }
@@ -83,6 +92,6 @@ pub(crate) fn sweep(cache: &mut Cache, index: &mut BTreeSet<(u64, Key)>, now: u6
     ensures paired { IsPaired cache.new.entries index.new.keys }
 {
     while let Some(key) = pop_due(index, now) {
-        cache.pop(&key);
+        let_go(cache, key);
     }
 }

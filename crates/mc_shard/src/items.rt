@@ -7,9 +7,9 @@ ghost use Rattle.mc_shard.specs.Kept.{kept_at, after_settle, after_put, after_ch
 
 use crate::cache::{Cache, append, prepend, rewrite, set_due, take_out, use_item};
 use crate::index::{note, sweep, unnote};
+use crate::item::KeptItem;
 use lru::LruCache;
 use mc_item::{Bytes, Expiry, Key, MOST_ITEMS, expired};
-use mc_model::Item;
 use std::alloc::{AllocError, Global};
 use std::collections::BTreeSet;
 use std::hash::RandomState;
@@ -23,7 +23,7 @@ pub(crate) struct Items {
     // When each item of the cache goes.
     index: BTreeSet<(u64, Key)>,
     // The item that was put already expired. It is the first of all, and not in the cache.
-    late: Option<(Key, Item)>,
+    late: Option<(Key, KeptItem)>,
     moment: u64,
     bound: u32,
 }
@@ -52,12 +52,13 @@ fn trim(cache: &mut Cache, index: &mut BTreeSet<(u64, Key)>, bound: u32)
         return;
     }
     if let Some((key, item)) = cache.pop_lru() {
-        unnote(index, item.due, Expiry::Never, key);
+        let due = item.due();
+        unnote(index, due, Expiry::Never, key);
     }
 }
 
 // Takes out the item of a key with the key, if it has one.
-fn take(cache: &mut Cache, index: &mut BTreeSet<(u64, Key)>, key: &Key) -> Option<(Key, Item)>
+fn take(cache: &mut Cache, index: &mut BTreeSet<(u64, Key)>, key: &Key) -> Option<(Key, KeptItem)>
     requires { IsPaired cache.old.entries index.old.keys }
     ensures item { option_map (λ e. e.1) result ≡ item_at cache.old.entries key.now }
     ensures key { IfSome result (λ e. e.0 ≡ key.now) }
@@ -66,7 +67,8 @@ fn take(cache: &mut Cache, index: &mut BTreeSet<(u64, Key)>, key: &Key) -> Optio
     ensures paired { IsPaired cache.new.entries index.new.keys }
 {
     let (key, item) = take_out(cache, key)?;
-    let key = unnote(index, item.due, Expiry::Never, key);
+    let due = item.due();
+    let key = unnote(index, due, Expiry::Never, key);
     Some((key, item))
 }
 
@@ -75,7 +77,7 @@ fn place(
     cache: &mut Cache,
     index: &mut BTreeSet<(u64, Key)>,
     key: Key,
-    item: Item,
+    item: KeptItem,
     bound: u32,
 ) -> Result<(), AllocError>
     requires paired { IsPaired cache.old.entries index.old.keys }
@@ -87,11 +89,12 @@ fn place(
     ensures cap { cache.new.cap ≡ cache.old.cap }
     ensures paired { IsPaired cache.new.entries index.new.keys }
 {
-    let due = item.due;
+    let due = item.due();
     note(index, due, &key)?;
     match cache.push(key, item) {
         Ok(Some((key, old))) => {
-            unnote(index, old.due, due, key);
+            let was = old.due();
+            unnote(index, was, due, key);
             Ok(())
         }
         Ok(None) => Ok(()),
@@ -143,13 +146,13 @@ impl Items {
     }
 
     /// The item of a key, if it has one that is not expired at a moment.
-    pub(crate) fn get(&self, key: &Key, now: u64) -> Option<&Item>
+    pub(crate) fn get(&self, key: &Key, now: u64) -> Option<&KeptItem>
         requires { self.now.moment ≤ now }
         ensures { option_copied result ≡ item_at (live now self.now.items) key.now }
     {
         match self.cache.peek(key) {
             Some(item) => {
-                if expired(item.due, now) {
+                if expired(item.due(), now) {
                     None
                 } else {
                     Some(item)
@@ -217,19 +220,20 @@ impl Items {
     {
         let taken = take(&mut self.cache, &mut self.index, key);
         self.settle(now);
-        let Some((key, item)) = taken else {
+        let Some((key, mut item)) = taken else {
             return;
         };
-        self.late = Some((key, Item { due, ..item }));
+        item.set_due(due);
+        self.late = Some((key, item));
     }
 
     /// Puts an item. An `Err` leaves all as it was.
-    pub(crate) fn put(&mut self, key: Key, item: Item, now: u64) -> Result<(), AllocError>
+    pub(crate) fn put(&mut self, key: Key, item: KeptItem, now: u64) -> Result<(), AllocError>
         requires { self.old.moment ≤ now }
         ensures ok { OnOk result (self.new ≡ after_put self.old now key item) }
         ensures err { OnErr result (self.new ≡ self.old) }
     {
-        if expired(item.due, now) {
+        if expired(item.due(), now) {
             self.put_late(key, item, now);
             Ok(())
         } else {
@@ -238,7 +242,7 @@ impl Items {
     }
 
     // Puts an item that is expired already.
-    fn put_late(&mut self, key: Key, item: Item, now: u64)
+    fn put_late(&mut self, key: Key, item: KeptItem, now: u64)
         requires moment { self.old.moment ≤ now }
         requires expired { is_expired item.due now ≡ true }
         ensures { self.new ≡ after_put self.old now key item }
@@ -250,7 +254,7 @@ impl Items {
     }
 
     // Puts an item that is not expired. What can fail comes first.
-    fn put_live(&mut self, key: Key, item: Item, now: u64) -> Result<(), AllocError>
+    fn put_live(&mut self, key: Key, item: KeptItem, now: u64) -> Result<(), AllocError>
         requires moment { self.old.moment ≤ now }
         requires live { is_expired item.due now ≡ false }
         ensures ok { OnOk result (self.new ≡ after_put self.old now key item) }
@@ -270,7 +274,7 @@ impl Items {
         alloc: Global,
         hasher: RandomState,
         key: Key,
-        item: Item,
+        item: KeptItem,
         now: u64,
     ) -> Result<(), AllocError>
         ensures ok { OnOk result (self.new ≡ after_put (kept_at [] 0 self.old.bound) now key item) }
@@ -338,7 +342,7 @@ impl Items {
         let taken = take(&mut self.cache, &mut self.index, key);
         self.settle(now);
         match taken {
-            Some((_key, item)) => !expired(item.due, now),
+            Some((_key, item)) => !expired(item.due(), now),
             None => false,
         }
     }

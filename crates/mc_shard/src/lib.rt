@@ -3,6 +3,7 @@
 
 mod cache;
 mod index;
+mod item;
 mod items;
 mod kind;
 mod op;

@@ -7,9 +7,9 @@ ghost use Rattle.mc_model.specs.Class.{new_class, is_flush_due, settled, standin
 ghost use Rattle.mc_shard.specs.Kept.{same, appended, prepended};
 ghost use Rattle.mc_shard.specs.Shard.{with_item, with_change, with_use, without_item, flushed_at};
 
+use crate::item::KeptItem;
 use crate::items::Items;
 use mc_item::{Bytes, CLASSES, Expiry, Key, LATEST_TIME, MOST_CHANGES, MOST_ITEMS};
-use mc_model::Item;
 use std::alloc::{AllocError, Global};
 use std::hash::RandomState;
 use std::marker::Model;
@@ -106,7 +106,7 @@ impl State {
         ensures { option_copied result ≡ option_map (λ item. item.value) (item_at (standing self.now) key.now) }
     {
         match self.items.get(key, self.items.moment()) {
-            Some(item) => Some(item.value.get()),
+            Some(item) => Some(item.value().get()),
             None => None,
         }
     }
@@ -130,7 +130,7 @@ impl State {
     }
 
     // The item that an operation finds.
-    fn found(&self, key: &Key, moment: u64) -> Option<&Item>
+    fn found(&self, key: &Key, moment: u64) -> Option<&KeptItem>
         ensures { option_copied result ≡ item_at (settled self.now moment).items key.now }
     {
         let now = self.latest(moment);
@@ -155,7 +155,7 @@ impl State {
     }
 
     // Puts an item.
-    fn put(&mut self, key: Key, item: Item, moment: u64) -> Result<(), AllocError>
+    fn put(&mut self, key: Key, item: KeptItem, moment: u64) -> Result<(), AllocError>
         ensures ok { OnOk result (self.new ≡ with_item (settled self.old moment) key item) }
         ensures err { OnErr result (self.new ≡ self.old) }
     {

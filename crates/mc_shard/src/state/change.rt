@@ -38,7 +38,7 @@ impl State {
         let Some(item) = self.found(key, moment) else {
             return Err(ShardReply::NotFound);
         };
-        let Some(number) = number(item.value.get(), u64::MAX) else {
+        let Some(number) = number(item.value().get(), u64::MAX) else {
             return Err(ShardReply::NonNumeric);
         };
         if self.changes == MOST_CHANGES {

@@ -16,9 +16,9 @@ impl State {
     {
         match self.found(key, moment) {
             Some(item) => Ok(Some(ShardReply::Item {
-                flags: item.flags,
-                cas: item.cas,
-                value: item.value.clone()?,
+                flags: item.flags(),
+                cas: item.cas(),
+                value: item.value().clone()?,
             })),
             None => Ok(None),
         }

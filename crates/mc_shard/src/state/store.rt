@@ -6,13 +6,14 @@ ghost use Rattle.mc_model.specs.Rows.{Store, cas_of, refusal_of, stored_item};
 ghost use Rattle.mc_model.specs.Class.{settled, key_step};
 ghost use Rattle.mc_shard.specs.Shard.{with_item, store_refusal};
 
+use crate::item::KeptItem;
 use crate::state::State;
 use mc_item::{Bytes, Key, LARGEST_VALUE, MOST_CHANGES, due};
-use mc_model::{How, Item, ShardReply};
+use mc_model::{How, ShardReply};
 use std::alloc::AllocError;
 
 // What the item of the key says against a store of a value of this length.
-fn item_refusal(how: How, size: usize, before: Option<&Item>) -> Option<ShardReply>
+fn item_refusal(how: How, size: usize, before: Option<&KeptItem>) -> Option<ShardReply>
     requires { size ≤ LARGEST_VALUE }
     ensures { result ≡ refusal_of how size (option_copied before.entry) }
 {
@@ -20,10 +21,10 @@ fn item_refusal(how: How, size: usize, before: Option<&Item>) -> Option<ShardRep
         (How::Add, Some(_)) => Some(ShardReply::NotStored),
         (How::Replace | How::Append | How::Prepend, None) => Some(ShardReply::NotStored),
         (How::Append | How::Prepend, Some(item)) => {
-            (LARGEST_VALUE - size < item.value.len()).then_some(ShardReply::TooLarge)
+            (LARGEST_VALUE - size < item.value().len()).then_some(ShardReply::TooLarge)
         }
         (How::Cas(_), None) => Some(ShardReply::NotFound),
-        (How::Cas(unique), Some(item)) => (item.cas != unique).then_some(ShardReply::Exists),
+        (How::Cas(unique), Some(item)) => (item.cas() != unique).then_some(ShardReply::Exists),
         (How::Set, _) | (How::Add, None) | (How::Replace, Some(_)) => None,
     }
 }
@@ -68,13 +69,7 @@ impl State {
             How::Prepend => self.prepend(&key, &value, cas, moment),
             How::Set | How::Add | How::Replace | How::Cas(_) => {
                 let due = due(exptime, self.latest(moment));
-                let item = Item {
-                    value,
-                    flags,
-                    due,
-                    cas,
-                };
-                self.put(key, item, moment)
+                self.put(key, KeptItem::new(value, flags, due, cas), moment)
             }
         }
     }

@@ -2,7 +2,6 @@ use Rattle.std.proofs.Common.{ap, ◌∙◌, sym}
 use Rattle.std.specs.Map.{set_value}
 use Rattle.lru.specs.LruCache.{promoted}
 use Rattle.mc_model.specs.Items.{same_key}
-use Rattle.mc_model.specs.Rows.{with_value}
 use Rattle.mc_shard.specs.Kept.{prepended}
 use Rattle.mc_shard.proofs.CacheFacts.{on_err, set-same, wrote_then_first}
 use Rattle.mc_shard.proofs.cache.prepend.Goals as goal
@@ -10,7 +9,7 @@ use Rattle.mc_shard.proofs.cache.prepend.Goals as goal
 pub returns-in_err-prepend-clause-err : goal.returns-in_err-prepend-clause-err
 returns-in_err-prepend-clause-err c =
     let v = c.in-Some.item.now in
-    on_err c.from_residual.result (ap (λ value. set_value (same_key c.args.key.now) c.args.cache.now.entries (with_value value v.cas v)) c.in_err-prepend.ensures.err
+    on_err c.from_residual.result (ap (λ w. set_value (same_key c.args.key.now) c.args.cache.now.entries w) c.in_err-prepend.ensures.err
     ∙ set-same c.args.cache.now.entries c.args.key.now v (sym c.in-Some.ensures.value))
 
 pub returns-clause-put : goal.returns-clause-put
@@ -19,4 +18,4 @@ returns-clause-put c =
     let test = same_key c.args.key.now in
     let es = c.args.cache.now.entries in
     wrote_then_first es _ c.args.key.now (prepended c.args.more.now c.args.cas) v c.requires c.in-Some.ensures.value
-    (ap (λ l. l.entries) c.promote.ensures.entries ∙ ap (λ value. promoted test (set_value test es (with_value value c.args.cas v))) c.in_ok-prepend.ensures.ok)
+    (ap (λ l. l.entries) c.promote.ensures.entries ∙ ap (λ w. promoted test (set_value test es w)) c.in_ok-prepend.ensures.put)

@@ -9,10 +9,10 @@ loop-key-preserved c =
     let i = c.loop-key.invariant in
     let es = c.loop-key.cache.entries in
     let one = swept_one c.args.now es c.loop-key.index.keys c.pop_due.new.index.keys c.in-Some.key i.paired c.in-Some.ensures.ripe in
-    let is = ap (λ l. l.entries) c.pop.ensures.entries in
+    let is = c.let_go.ensures.entries in
     record {
       paired = subst (λ items. IsPaired items c.pop_due.new.index.keys) (sym is) one.paired;
-      cap = ap (λ l. l.cap) c.pop.ensures.entries ∙ i.cap;
+      cap = c.let_go.ensures.cap ∙ i.cap;
       swept = ap (live c.args.now) is ∙ one.swept ∙ i.swept;
     }
 

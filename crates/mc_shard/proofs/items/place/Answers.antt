@@ -1,6 +1,6 @@
 use Rattle.std.proofs.Common.{ap, subst, sym, refl, ◌∙◌}
 use Rattle.mc_item.specs.declared.expiry.Expiry.TheVariants.{Never}
-use Rattle.mc_shard.specs.Kept.{IsPaired, LosesEntry, due_of}
+use Rattle.mc_shard.specs.Kept.{IsPaired, GainsEntry, LosesEntry, due_of}
 use Rattle.mc_shard.proofs.CacheFacts.{put-first}
 use Rattle.mc_shard.proofs.IndexFacts.{paired_first, paired_undone}
 use Rattle.mc_shard.proofs.PutFacts.{displaced_is, displaced_none, none_there}
@@ -24,8 +24,8 @@ returns-in-Ok-Some-clause-paired c =
     let k = c.unnote.new.index.keys in
     let was = displaced_is l.entries l.cap c.args.bound c.args.key c.args.item (c.in-Ok-Some.key, c.in-Ok-Some.old) c.requires.few c.requires.most c.requires.unbounded (sym c.in-Ok-Some.field-0-is ∙ c.in-Ok-Some.ensures.old) in
     subst (λ es. IsPaired es k) (sym (ap (λ l. l.entries) c.in-Ok-Some.ensures.entries ∙ put-first l.entries l.cap c.args.bound c.args.key c.args.item c.requires.paired.apart c.requires.few c.requires.most c.requires.unbounded))
-    (paired_first l.entries i j k c.args.key c.in-Ok-Some.old.due c.args.item c.requires.paired (ap due_of was.1) c.in_ok-note.ensures.gains
-    (subst (λ x. LosesEntry j k c.in-Ok-Some.old.due c.args.item.due x) was.0 c.unnote.ensures.gone))
+    (paired_first l.entries i j k c.args.key c.in-Ok-Some.old.due c.args.item c.requires.paired (ap due_of was.1) (subst (λ due. GainsEntry i j due c.args.key) c.due-due.ensures c.in_ok-note.ensures.gains)
+    (subst (λ x. LosesEntry j k c.in-Ok-Some.old.due c.args.item.due x) was.0 (subst (λ d. LosesEntry j k d c.args.item.due c.in-Ok-Some.key) c.due-was.ensures (subst (λ d. LosesEntry j k c.due-was.result d c.in-Ok-Some.key) c.due-due.ensures c.unnote.ensures.gone))))
 
 pub returns-in-Ok-None-clause-paired : goal.returns-in-Ok-None-clause-paired
 returns-in-Ok-None-clause-paired c =
@@ -34,7 +34,7 @@ returns-in-Ok-None-clause-paired c =
     let j = c.note.new.index.keys in
     let none = displaced_none l.entries l.cap c.args.key c.args.item (sym c.in-Ok-None.field-0-is ∙ c.in-Ok-None.ensures.old) in
     subst (λ es. IsPaired es j) (sym (ap (λ l. l.entries) c.in-Ok-None.ensures.entries ∙ put-first l.entries l.cap c.args.bound c.args.key c.args.item c.requires.paired.apart c.requires.few c.requires.most c.requires.unbounded))
-    (paired_first l.entries i j j c.args.key Never c.args.item c.requires.paired (sym (ap due_of none)) c.in_ok-note.ensures.gains (λ m q. refl))
+    (paired_first l.entries i j j c.args.key Never c.args.item c.requires.paired (sym (ap due_of none)) (subst (λ due. GainsEntry i j due c.args.key) c.due-due.ensures c.in_ok-note.ensures.gains) (λ m q. refl))
 
 pub returns-in-Err-clause-paired : goal.returns-in-Err-clause-paired
 returns-in-Err-clause-paired c =
@@ -43,5 +43,5 @@ returns-in-Err-clause-paired c =
     let j = c.note.new.index.keys in
     let k = c.unnote-in-Err.new.index.keys in
     subst (λ es. IsPaired es k) (sym (ap (λ l. l.entries) c.in-Err.ensures.err))
-    (paired_undone l.entries i j k c.args.key c.args.item.due c.requires.paired (none_there _ (λ there. cc (c.in-Err.ensures.succeeds there))) c.in_ok-note.ensures.gains
-    (subst (λ x. LosesEntry j k c.args.item.due Never x) (ap (λ p. p.0) c.in-Err.ensures.value_returned) c.unnote-in-Err.ensures.gone))
+    (paired_undone l.entries i j k c.args.key c.args.item.due c.requires.paired (none_there _ (λ there. cc (c.in-Err.ensures.succeeds there))) (subst (λ due. GainsEntry i j due c.args.key) c.due-due.ensures c.in_ok-note.ensures.gains)
+    (subst (λ x. LosesEntry j k c.args.item.due Never x) (ap (λ p. p.0) c.in-Err.ensures.value_returned) (subst (λ d. LosesEntry j k d Never c.in-Err.failed.value.0) c.due-due.ensures c.unnote-in-Err.ensures.gone)))

@@ -16,4 +16,4 @@ returns-clause-paired c =
     let k = c.unnote-key.new.index.keys in
     subst (λ l. IsPaired l k) (sym c.take_out.ensures.loses)
     (paired_without es c.args.index.now.keys k c.args.key.now c.in_ok-key.item.due c.requires (ap due_of c.in_ok-key.ensures.item)
-    (subst (λ x. LosesEntry c.args.index.now.keys k c.in_ok-key.item.due Never x) c.in_ok-key.ensures.key c.unnote-key.ensures.gone))
+    (subst (λ x. LosesEntry c.args.index.now.keys k c.in_ok-key.item.due Never x) c.in_ok-key.ensures.key (subst (λ due. LosesEntry c.args.index.now.keys k due Never c.in_ok-key.key) c.due-due.ensures c.unnote-key.ensures.gone)))

@@ -1,4 +1,5 @@
 use Rattle.std.proofs.Common.{ap, sym, is_some, not, refl, ◌∙◌}
+use Rattle.mc_item.specs.Expiry.{is_expired}
 use Rattle.mc_shard.proofs.Steps.{order_without, without_view, seen_of, is_kept}
 use Rattle.mc_shard.proofs.items.Items.remove.Goals as goal
 
@@ -13,7 +14,7 @@ returns-in-Some-clause-there c =
     let s = c.self.inside in
     let o = c.self.invariant in
     let le = rw (← c.self.view_is) at c.requires in
-    ap not c.expired.ensures ∙ is_kept c.in-Some.item c.args.now ∙ rw (← c.self.view_is) (ap (λ o. is_some o) (seen_of s.cache.entries s.cache.cap s.index.keys s.late s.moment s.bound c.args.now c.args.key.now _ o le c.in-Some.ensures.item))
+    ap not (c.expired.ensures ∙ ap (λ due. is_expired due c.args.now) c.due.ensures) ∙ is_kept c.in-Some.item c.args.now ∙ rw (← c.self.view_is) (ap (λ o. is_some o) (seen_of s.cache.entries s.cache.cap s.index.keys s.late s.moment s.bound c.args.now c.args.key.now _ o le c.in-Some.ensures.item))
 
 pub returns-in-Some-clause-gone : goal.returns-in-Some-clause-gone
 returns-in-Some-clause-gone c =
