@@ -1,0 +1,4 @@
+mod PartSteps
+mod Items
+mod Shows
+mod LaunchSteps
