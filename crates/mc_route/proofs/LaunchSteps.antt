@@ -1,8 +1,9 @@
 -- Launches on the desk, one class after another.
-use Rattle.std.proofs.Common.{◌≡◌, ◌∙◌, ℕ, zero, suc, ◌+◌, ◌-◌, ◌^◌, ◌<◌, ◌≤◌, min, Bool, true, false, cond, ◌&&◌, List, [], ◌∷◌, ◌++◌, map, length, Option, Some, None, refl, ap, sym, arith}
+use Rattle.std.proofs.Common.{◌≡◌, ◌∙◌, ℕ, zero, suc, ◌+◌, ◌-◌, ◌^◌, ◌<◌, ◌≤◌, min, Bool, true, false, cond, ◌&&◌, List, [], ◌∷◌, ◌++◌, map, length, Option, Some, None, refl, ap, sym, arith, zero-add}
 use Rattle.std.specs.Prelude.{sum, nat_lt, nat_le, ◌==◌}
 use Rattle.std.specs.List.{fold, range_with_len}
 use Rattle.std.proofs.lemmas.Bool.{lt-ltb, le-leb}
+use Rattle.std.proofs.lemmas.List.Sums.{sum_by-cons}
 use Rattle.tm_seq.specs.declared.kind.Event.TheVariants.{Begin, Reply}
 use Rattle.tm_seq.specs.declared.kind.Next.TheVariants.{Done}
 use Rattle.mc_model.specs.declared.reply.ShardReply.{ShardReply}
@@ -58,10 +59,10 @@ own_told v (Count moment) trustees class held stored a b some below =
 launch_at : List ShardReply → DeskNext → Launch
 launch_at replies next = launch_of replies next.0 next.1
 
-held_after : DeskWork → ℕ → List (ℕ × ℕ) → ℕ
+abbrev held_after : DeskWork → ℕ → List (ℕ × ℕ) → ℕ
 held_after work held counts = fold (adds work) held (map (λ c. c.0) counts)
 
-stored_after : DeskWork → ℕ → List (ℕ × ℕ) → ℕ
+abbrev stored_after : DeskWork → ℕ → List (ℕ × ℕ) → ℕ
 stored_after work stored counts = fold (adds work) stored (map (λ c. c.1) counts)
 
 all_left : (v : Desk) (work : DeskWork) (trustees : ℕ) (counts : List (ℕ × ℕ)) (class held stored : ℕ) → 2 ≤ trustees → class + length counts ≡ 64
@@ -69,7 +70,7 @@ all_left : (v : Desk) (work : DeskWork) (trustees : ℕ) (counts : List (ℕ × 
       asked = map (class_asked work trustees) (range_with_len class (length counts));
       ended = Some (with_done v, told_by work (held_after work held counts) (stored_after work stored counts));
     }
-unfolding launch_at held_after stored_after
+unfolding launch_at
 all_left v work trustees [] class held stored some all =
     let last : class ≡ 64 = omega arith in
     ap (λ (n : ℕ). launch_at [] (goes_on v (task_at work trustees n held stored))) last
@@ -107,16 +108,22 @@ stops v work trustees (c ∷ counts) others class held stored some all =
 -- ---- from the beginning
 
 -- a sum that stands still at each step is the sum that stands still
-fold_is : (xs : List ℕ) (sum_so_far : ℕ) → sum_so_far ≤ 2 ^ 64 - 1 → fold sum_up sum_so_far xs ≡ min (sum_so_far + sum xs) (2 ^ 64 - 1)
-fold_is [] n fits = omega arith
-fold_is (x ∷ xs) n fits = fold_is xs (sum_up n x) (omega arith) ∙ (omega arith)
+fold_is : (moment : ℕ) (xs : List ℕ) (n : ℕ) → n ≤ 2 ^ 64 - 1 → fold (adds (Count moment)) n xs ≡ min (n + sum xs) (2 ^ 64 - 1)
+fold_is moment [] n fits = omega arith
+fold_is moment (x ∷ xs) n fits =
+    let so_far : ℕ = min (n + x) (2 ^ 64 - 1) in
+    let more : sum (x ∷ xs) ≡ x + sum xs = sum_by-cons (λ n. n) x xs in
+    let last : min (so_far + sum xs) (2 ^ 64 - 1) ≡ min (n + sum (x ∷ xs)) (2 ^ 64 - 1) = omega arith in
+    fold_is moment xs so_far (omega arith) ∙ last
 
 totals_are : (work : DeskWork) (counts : List (ℕ × ℕ)) → told_by work (held_after work 0 counts) (stored_after work 0 counts) ≡ told_by work (total_of (λ c. c.0) counts) (total_of (λ c. c.1) counts)
-unfolding held_after stored_after
 totals_are (Flush delay moment) counts = refl
 totals_are (Count moment) counts =
-    ap (λ n. told_by (Count moment) n (fold sum_up 0 (map (λ c. c.1) counts))) (fold_is (map (λ c. c.0) counts) 0 (omega arith))
-    ∙ ap (λ n. told_by (Count moment) (min (0 + sum (map (λ c. c.0) counts)) (2 ^ 64 - 1)) n) (fold_is (map (λ c. c.1) counts) 0 (omega arith))
+    let held = map (λ (c : ℕ × ℕ). c.0) counts in
+    let stored = map (λ (c : ℕ × ℕ). c.1) counts in
+    let held_is : held_after (Count moment) 0 counts ≡ min (sum held) (2 ^ 64 - 1) = fold_is moment held 0 (omega arith) ∙ ap (λ n. min n (2 ^ 64 - 1)) (zero-add (sum held)) in
+    let stored_is : stored_after (Count moment) 0 counts ≡ min (sum stored) (2 ^ 64 - 1) = fold_is moment stored 0 (omega arith) ∙ ap (λ n. min n (2 ^ 64 - 1)) (zero-add (sum stored)) in
+    ap (λ n. told_by (Count moment) n (stored_after (Count moment) 0 counts)) held_is ∙ ap (λ n. told_by (Count moment) (min (sum held) (2 ^ 64 - 1)) n) stored_is
 
 begins : (v : Desk) (work : DeskWork) (trustees : ℕ) (replies : List ShardReply) → 2 ≤ trustees → launched v work trustees replies ≡ launch_at replies (goes_on v (first_task work trustees))
 unfolding launch_at

@@ -2,3 +2,6 @@ mod PartSteps
 mod Items
 mod Shows
 mod LaunchSteps
+mod Placed
+mod KeyParts
+mod Finding

@@ -1,6 +1,5 @@
 -- What is shown of the replies to a command, by its frame.
-use Rattle.std.proofs.Common.{◌≡◌, ◌∙◌, Bool, true, false, cond, List, [], ◌∷◌, refl, ap}
-use Rattle.std.specs.Option.{option_map_or}
+use Rattle.std.proofs.Common.{◌≡◌, List, [], ◌∷◌, Option, Some, None, refl, ap, sym}
 use Rattle.mc_model.specs.declared.message.Command.{Command}
 use Rattle.mc_model.specs.declared.message.Command.TheVariants as command
 use Rattle.mc_model.specs.declared.reply.ShardReply.{ShardReply}
@@ -12,10 +11,16 @@ use Rattle.mc_route.specs.Plans.{showing_of}
 use Rattle.mc_route.specs.Joins.{only_of, shows_by}
 
 -- what the only reply shows
-pub only : (shows : ShardReply → Shown) (replies : List ShardReply) → option_map_or shows (only_of replies) (Line said.Error) ≡ only_reply shows replies
-only shows [] = refl
-only shows (r ∷ []) = refl
-only shows (r ∷ s ∷ replies) = refl
+pub only_some : (shows : ShardReply → Shown) (replies : List ShardReply) (r : ShardReply) → only_of replies ≡ Some r → shows r ≡ only_reply shows replies
+only_some shows [] r e = absurd cc
+only_some shows (x ∷ []) r e = let same : x ≡ r = cc in ap shows (sym same)
+only_some shows (x ∷ y ∷ replies) r e = absurd cc
+
+-- that there is not one
+pub only_none : (shows : ShardReply → Shown) (replies : List ShardReply) → only_of replies ≡ None → Line said.Error ≡ only_reply shows replies
+only_none shows [] e = refl
+only_none shows (x ∷ []) e = absurd cc
+only_none shows (x ∷ y ∷ replies) e = refl
 
 -- a command's replies are shown by what was kept of it
 pub shows_as : (c : Command) (replies : List ShardReply) → shows_by (showing_of c) replies ≡ replies_show c replies

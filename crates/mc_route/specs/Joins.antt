@@ -1,12 +1,13 @@
 -- Words of the contracts of small functions over replies.
 use Rattle.std.specs.Prelude.{Bool, true, false, List, [], ◌∷◌, Option, Some, None}
 use Rattle.mc_model.specs.declared.reply.ShardReply.{ShardReply}
-use Rattle.mc_model.specs.declared.shown.Said.TheVariants as said
 use Rattle.mc_model.specs.declared.shown.Shown.{Shown}
 use Rattle.mc_model.specs.declared.shown.Shown.TheVariants.{Nothing, Line}
 use Rattle.mc_model.specs.Showing.{store_says, delete_says, touch_says, change_shows, flush_says, stats_shows, get_shows, only_reply}
 use Rattle.mc_route.specs.declared.frame.Showing.{Showing}
-use Rattle.mc_route.specs.declared.frame.Showing.TheVariants.{Store, Values, Delete, Change, Touch, FlushAll, Stats, Version, Verbosity, Quit}
+use Rattle.mc_route.specs.declared.frame.Showing.TheVariants as showing
+use Rattle.mc_route.specs.declared.frame.Operation.{Operation}
+use Rattle.mc_route.specs.declared.frame.Operation.TheVariants.{Store, Delete, Change, Touch, FlushAll, Stats}
 
 -- the only element of a list, where there is no other
 abbrev pub only_of : {A : Type 0} → List A → Option A
@@ -19,15 +20,18 @@ abbrev pub some_if : {A : Type 0} → Bool → A → Option A
 some_if true x = Some x
 some_if false x = None
 
--- what the replies to a command that is shown so show, where none of them is for want of memory
+-- what the reply to an operation shows
+abbrev pub reply_shows : Operation → ShardReply → Shown
+reply_shows (Store how) reply = Line (store_says how reply)
+reply_shows Delete reply = Line (delete_says reply)
+reply_shows Change reply = change_shows reply
+reply_shows Touch reply = Line (touch_says reply)
+reply_shows FlushAll reply = Line (flush_says reply)
+reply_shows Stats reply = stats_shows reply
+
+-- what replies show, where none of them is for want of memory
 abbrev pub shows_by : Showing → List ShardReply → Shown
-shows_by (Store how) replies = only_reply (λ r. Line (store_says how r)) replies
-shows_by (Values keys with_cas) replies = get_shows keys with_cas replies
-shows_by Delete replies = only_reply (λ r. Line (delete_says r)) replies
-shows_by Change replies = only_reply change_shows replies
-shows_by Touch replies = only_reply (λ r. Line (touch_says r)) replies
-shows_by FlushAll replies = only_reply (λ r. Line (flush_says r)) replies
-shows_by Stats replies = only_reply stats_shows replies
-shows_by Version replies = Line said.Version
-shows_by Verbosity replies = Line said.Ok
-shows_by Quit replies = Nothing
+shows_by showing.Nothing replies = Nothing
+shows_by (showing.Line said) replies = Line said
+shows_by (showing.ReplyTo operation) replies = only_reply (reply_shows operation) replies
+shows_by (showing.Values keys with_cas) replies = get_shows keys with_cas replies

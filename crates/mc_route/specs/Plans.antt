@@ -3,6 +3,7 @@ use Rattle.std.specs.Prelude.{ℕ, ℤ, List, map, Option, Some, None}
 use Rattle.mc_item.specs.Classes.{class_of}
 use Rattle.mc_model.specs.declared.message.Command.{Command}
 use Rattle.mc_model.specs.declared.message.Command.TheVariants as command
+use Rattle.mc_model.specs.declared.shown.Said.TheVariants as said
 use Rattle.mc_model.specs.Rows.{KeyOp, Store, Get, GetTouch, Change, Touch, Delete}
 use Rattle.mc_model.specs.Plain.{Part, parts_of}
 use Rattle.mc_model.specs.Showing.{is_quiet}
@@ -13,7 +14,8 @@ use Rattle.mc_route.specs.declared.parts.ShardPart.{ShardPart}
 use Rattle.mc_route.specs.declared.planning.Ask.{Ask}
 use Rattle.mc_route.specs.declared.planning.Ask.TheVariants.{Nobody, Shards, Desk}
 use Rattle.mc_route.specs.declared.frame.Showing.{Showing}
-use Rattle.mc_route.specs.declared.frame.Showing.TheVariants as showing
+use Rattle.mc_route.specs.declared.frame.Showing.TheVariants.{Nothing, Line, ReplyTo, Values}
+use Rattle.mc_route.specs.declared.frame.Operation.TheVariants as operation
 use Rattle.mc_route.specs.declared.frame.Frame.{Frame}
 use Rattle.mc_route.specs.Desks.{first_task}
 
@@ -44,19 +46,19 @@ ask_of (command.Verbosity quiet) moment trustees = Nobody
 ask_of command.Quit moment trustees = Nobody
 ask_of command moment trustees = Shards (map (shard_part moment) (parts_of command))
 
--- what the replies to a command are shown by, unless it is quiet
+-- what is shown of the replies to a command, unless it is quiet
 abbrev pub showing_of : Command → Showing
-showing_of (command.Store how key flags exptime value quiet) = showing.Store how
-showing_of (command.Get keys with_cas) = showing.Values keys with_cas
-showing_of (command.GetTouch exptime keys with_cas) = showing.Values keys with_cas
-showing_of (command.Delete key quiet) = showing.Delete
-showing_of (command.Change up key by quiet) = showing.Change
-showing_of (command.Touch key exptime quiet) = showing.Touch
-showing_of (command.FlushAll delay quiet) = showing.FlushAll
-showing_of command.Stats = showing.Stats
-showing_of command.Version = showing.Version
-showing_of (command.Verbosity quiet) = showing.Verbosity
-showing_of command.Quit = showing.Quit
+showing_of (command.Store how key flags exptime value quiet) = ReplyTo (operation.Store how)
+showing_of (command.Get keys with_cas) = Values keys with_cas
+showing_of (command.GetTouch exptime keys with_cas) = Values keys with_cas
+showing_of (command.Delete key quiet) = ReplyTo operation.Delete
+showing_of (command.Change up key by quiet) = ReplyTo operation.Change
+showing_of (command.Touch key exptime quiet) = ReplyTo operation.Touch
+showing_of (command.FlushAll delay quiet) = ReplyTo operation.FlushAll
+showing_of command.Stats = ReplyTo operation.Stats
+showing_of command.Version = Line said.Version
+showing_of (command.Verbosity quiet) = Line said.Ok
+showing_of command.Quit = Nothing
 
 -- what is kept of a command until its replies are there
 abbrev pub frame_of : Command → Frame

@@ -3,27 +3,30 @@ ghost use Rattle.std.specs.Prelude.{◌≡◌, IfOk};
 ghost use Rattle.mc_model.specs.Showing.{is_quiet};
 ghost use Rattle.mc_route.specs.Plans.{showing_of, frame_of};
 
-use mc_model::{Command, How, Keys};
+use mc_model::{Command, How, Keys, Said};
 use std::alloc::{AllocError, Global};
 
-/// How the replies to a command are shown, unless it is quiet.
-#[derive(Drop)]
-pub enum Showing {
-    /// The line of a store's reply.
+/// An operation, or a launch, whose only reply is shown.
+#[derive(Clone, Copy, Debug, PartialEq, Eq)]
+pub enum Operation {
     Store(How),
-    /// The items of these keys, for a `get`, `gets`, `gat` or `gats`.
-    Values {
-        keys: Keys,
-        with_cas: bool,
-    },
     Delete,
     Change,
     Touch,
     FlushAll,
     Stats,
-    Version,
-    Verbosity,
-    Quit,
+}
+
+/// What is shown, unless the command is quiet.
+#[derive(Drop)]
+pub enum Showing {
+    Nothing,
+    /// A line that depends on no reply.
+    Line(Said),
+    /// What the only reply says.
+    ReplyTo(Operation),
+    /// The items that the replies to a get of these keys tell.
+    Values { keys: Keys, with_cas: bool },
 }
 
 /// What is kept of a command until its replies are there. The keys and the value of what is asked are not in it, but
@@ -32,7 +35,7 @@ pub enum Showing {
 pub struct Frame {
     /// Whether it was sent with `noreply`.
     pub quiet: bool,
-    /// How its replies are shown.
+    /// What is shown else.
     pub showing: Showing,
 }
 
@@ -47,26 +50,26 @@ fn copy_of(alloc: Global, keys: &Keys) -> Result<Keys, AllocError>
     Ok(copy)
 }
 
-// How the replies to a command are shown.
+// What is shown of the replies to a command.
 fn showing_of(alloc: Global, command: &Command) -> Result<Showing, AllocError>
     ensures { IfOk result (λ showing. showing ≡ showing_of command.now) }
 {
     Ok(match command {
-        Command::Store { how, .. } => Showing::Store(*how),
+        Command::Store { how, .. } => Showing::ReplyTo(Operation::Store(*how)),
         Command::Get { keys, with_cas } | Command::GetTouch { keys, with_cas, .. } => {
             Showing::Values {
                 keys: copy_of(alloc, keys)?,
                 with_cas: *with_cas,
             }
         }
-        Command::Delete { .. } => Showing::Delete,
-        Command::Change { .. } => Showing::Change,
-        Command::Touch { .. } => Showing::Touch,
-        Command::FlushAll { .. } => Showing::FlushAll,
-        Command::Stats => Showing::Stats,
-        Command::Version => Showing::Version,
-        Command::Verbosity { .. } => Showing::Verbosity,
-        Command::Quit => Showing::Quit,
+        Command::Delete { .. } => Showing::ReplyTo(Operation::Delete),
+        Command::Change { .. } => Showing::ReplyTo(Operation::Change),
+        Command::Touch { .. } => Showing::ReplyTo(Operation::Touch),
+        Command::FlushAll { .. } => Showing::ReplyTo(Operation::FlushAll),
+        Command::Stats => Showing::ReplyTo(Operation::Stats),
+        Command::Version => Showing::Line(Said::Version),
+        Command::Verbosity { .. } => Showing::Line(Said::Ok),
+        Command::Quit => Showing::Nothing,
     })
 }
 

@@ -3,11 +3,11 @@ ghost use Rattle.std.specs.Prelude.{◌≡◌, ◌++◌, IfOk};
 ghost use Rattle.std.specs.List.{list_any};
 ghost use Rattle.std.specs.Option.{option_map};
 ghost use Rattle.mc_model.specs.declared.message.Command.{Command};
-ghost use Rattle.mc_model.specs.Showing.{is_no_memory, items_of, all_items_of, get_shows, shown_of};
+ghost use Rattle.mc_model.specs.Showing.{is_no_memory, items_of, all_items_of, get_shows, only_reply, shown_of};
 ghost use Rattle.mc_route.specs.Plans.{frame_of};
-ghost use Rattle.mc_route.specs.Joins.{only_of, some_if, shows_by};
+ghost use Rattle.mc_route.specs.Joins.{only_of, some_if, reply_shows, shows_by};
 
-use crate::frame::{Frame, Showing};
+use crate::frame::{Frame, Operation, Showing};
 use mc_item::Key;
 use mc_model::{Keys, Said, ShardReply, Shown, ShownItem, ShownItems};
 use mc_reply::{
@@ -92,6 +92,30 @@ fn get_shows(
     }
 }
 
+// What the reply to an operation shows.
+fn reply_shows(operation: Operation, reply: &ShardReply) -> Shown
+    ensures { result ≡ reply_shows operation reply.now }
+{
+    match operation {
+        Operation::Store(how) => Shown::Line(store_says(how, reply)),
+        Operation::Delete => Shown::Line(delete_says(reply)),
+        Operation::Change => change_shows(reply),
+        Operation::Touch => Shown::Line(touch_says(reply)),
+        Operation::FlushAll => Shown::Line(flush_says(reply)),
+        Operation::Stats => stats_shows(reply),
+    }
+}
+
+// What the only reply to an operation shows; another number of replies shows an error.
+fn only_reply_shows(operation: Operation, replies: Vec<ShardReply>) -> Shown
+    ensures { result ≡ only_reply (reply_shows operation) replies.items }
+{
+    match only_of(replies) {
+        Some(reply) => reply_shows(operation, &reply),
+        None => Shown::Line(Said::Error),
+    }
+}
+
 // What replies show, of which none is for want of memory.
 fn shows_by(
     alloc: Global,
@@ -100,27 +124,12 @@ fn shows_by(
 ) -> Result<Shown, AllocError>
     ensures { IfOk result (λ shown. shown ≡ shows_by showing replies.items) }
 {
-    let error = Shown::Line(Said::Error);
-    Ok(match showing {
-        Showing::Store(how) => {
-            only_of(replies).map_or(error, |reply| Shown::Line(store_says(how, &reply)))
-        }
-        Showing::Values { keys, with_cas } => {
-            return get_shows(alloc, keys, with_cas, replies);
-        }
-        Showing::Delete => {
-            only_of(replies).map_or(error, |reply| Shown::Line(delete_says(&reply)))
-        }
-        Showing::Change => only_of(replies).map_or(error, |reply| change_shows(&reply)),
-        Showing::Touch => only_of(replies).map_or(error, |reply| Shown::Line(touch_says(&reply))),
-        Showing::FlushAll => {
-            only_of(replies).map_or(error, |reply| Shown::Line(flush_says(&reply)))
-        }
-        Showing::Stats => only_of(replies).map_or(error, |reply| stats_shows(&reply)),
-        Showing::Version => Shown::Line(Said::Version),
-        Showing::Verbosity => Shown::Line(Said::Ok),
-        Showing::Quit => Shown::Nothing,
-    })
+    match showing {
+        Showing::Nothing => Ok(Shown::Nothing),
+        Showing::Line(said) => Ok(Shown::Line(said)),
+        Showing::ReplyTo(operation) => Ok(only_reply_shows(operation, replies)),
+        Showing::Values { keys, with_cas } => get_shows(alloc, keys, with_cas, replies),
+    }
 }
 
 /// What a command shows whose frame this is and that had these replies, in the order of its parts.

@@ -6,7 +6,7 @@ ghost use Rattle.mc_route.specs.Plans.{asked_of, shard_part, ask_of, frame_of};
 use crate::desk::{DeskTask, DeskWork};
 use crate::frame::Frame;
 use crate::parts::{ShardPart, ShardParts};
-use mc_item::class_of;
+use mc_item::{Key, class_of};
 use mc_model::{Command, Keys};
 use mc_shard::ShardOp;
 use std::alloc::{AllocError, Global};
@@ -40,28 +40,34 @@ fn one_part(alloc: Global, class: u32, op: ShardOp) -> Result<Ask, AllocError>
     Ok(Ask::Shards(parts))
 }
 
-// A part for each key, in order: its item is got, which goes at another time where there is an exptime. Each key is
-// copied once.
+// The part that gets the item of a key, which goes at another time where there is an exptime.
+fn part_of(key: Key, exptime: Option<i64>, moment: u64) -> ShardPart
+    ensures { result ≡ shard_part moment (key, asked_of exptime) }
+{
+    let class = class_of(&key);
+    let op = match exptime {
+        None => ShardOp::Get { key, moment },
+        Some(exptime) => ShardOp::GetTouch {
+            key,
+            exptime,
+            moment,
+        },
+    };
+    ShardPart { class, op }
+}
+
+// Such a part for each key, in order.
 fn part_for_each(
     alloc: Global,
     exptime: Option<i64>,
     keys: Keys,
     moment: u64,
 ) -> Result<Ask, AllocError>
-    ensures { IfOk result (λ ask. ask ≡ Ask.Shards (map (λ key. shard_part moment (key, asked_of exptime)) keys)) }
+    ensures { IfOk result (λ ask. ask ≡ Ask.Shards (map (shard_part moment) (map (λ key. (key, asked_of exptime)) keys))) }
 {
     let mut parts = ShardParts::new(alloc);
     for key in keys.into_vec() {
-        let class = class_of(&key);
-        let op = match exptime {
-            None => ShardOp::Get { key, moment },
-            Some(exptime) => ShardOp::GetTouch {
-                key,
-                exptime,
-                moment,
-            },
-        };
-        parts.push(ShardPart { class, op })?;
+        parts.push(part_of(key, exptime, moment))?;
     }
     Ok(Ask::Shards(parts))
 }
