@@ -1,4 +1,4 @@
-//! One item of the reply to a `get`.
+//! One item of the reply to a `get` or `gat`.
 ghost use Rattle.std.specs.Prelude.{◌≡◌, ◌++◌, length, take, OnOk, OnErr};
 ghost use Rattle.mc_model.specs.Rendering.{cas_bytes, item_bytes};
 

@@ -1,13 +1,18 @@
-//! The bytes that show a reply to a client, in memcached's words (`protocol.txt`).
+//! What a reply says to a client, and the bytes that show it, in memcached's words (`protocol.txt`).
 #![tactic(auto)]
 
 mod item;
 mod pieces;
 mod rendering;
 mod said;
+mod saying;
 mod size;
 #[cfg(test)]
 mod tests;
 
 pub use mc_model::{Said, Shown, ShownItem, ShownItems};
 pub use rendering::render;
+pub use saying::{
+    change_shows, delete_says, fault_shows, flush_says, lacks_memory, line_unless, stats_shows,
+    store_says, touch_says,
+};

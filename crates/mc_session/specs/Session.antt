@@ -46,8 +46,8 @@ pub record Answered (old : Serving) (command : Command) (clock clock_new : Optio
   pub reply : ClassesReply old.classes command new.moment new.classes replies
   pub shows : new.out ≡ old.out ++ bytes_of (shown_of command replies)
 
--- Memory was wanting: the clock was read once, and at the moment that it leaves the classes replied to the command, or to a `get` of
--- the first of its keys. The bytes that are still to be written stay.
+-- Memory was wanting: the clock was read once, and at the moment that it leaves the classes replied to the command, or to a `get` or
+-- `gat` of the first of its keys. The bytes that are still to be written stay.
 pub record GaveUp (old : Serving) (command : Command) (clock clock_new : Option (List ℕ)) (new : Serving) : Type 0 where
   pub reading : ℕ
   pub is_read : Grows clock clock_new (reading ∷ [])

@@ -4,15 +4,16 @@ ghost use Rattle.mc_session.specs.Answers.{IsAnswer, IsBegun};
 
 use crate::asking::Asking;
 use crate::showing::{
-    change_shown, delete_shown, flush_shown, shown_unless, stats_shown, store_shown, touch_shown,
+    change_shown, delete_shown, flush_shown, stats_shown, store_shown, touch_shown,
 };
 use mc_model::{Command, Said, Shown};
+use mc_reply::line_unless;
 use std::alloc::{AllocError, Global};
 use tm_base::Gate;
 
 impl Asking {
     /// Asks the classes what a command asks for, and says what it shows. An `Err`, for want of memory, has asked for all,
-    /// or of a `get` for the first of its keys.
+    /// or of a `get` or `gat` for the first of its keys.
     pub(crate) fn answer<G: Gate>(
         &mut self,
         alloc: Global,
@@ -59,7 +60,7 @@ impl Asking {
             }
             Command::Stats => Ok(stats_shown(self.count_all(moment, gate))),
             Command::Version => Ok(Shown::Line(Said::Version)),
-            Command::Verbosity { quiet } => Ok(shown_unless(quiet, Said::Ok)),
+            Command::Verbosity { quiet } => Ok(line_unless(quiet, Said::Ok)),
             Command::Quit => Ok(Shown::Nothing),
         }
     }

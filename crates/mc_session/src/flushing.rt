@@ -1,20 +1,13 @@
 //! `flush_all`: a flush of each class.
 ghost use Rattle.std.specs.Prelude.{◌≡◌, [], ◌∷◌};
-ghost use Rattle.mc_model.specs.Showing.{is_no_memory};
 ghost use Rattle.mc_laws.specs.Replies.{AreFlushed};
 
 use crate::asking::Asking;
 use mc_item::CLASSES;
 use mc_model::ShardReply;
+use mc_reply::lacks_memory;
 use mc_shard::ShardOp;
 use tm_base::Gate;
-
-// Whether memory was wanting.
-fn lacks_memory(reply: ShardReply) -> bool
-    ensures { result ≡ is_no_memory reply }
-{
-    matches!(reply, ShardReply::NoMemory)
-}
 
 impl Asking {
     /// Flushes the classes in the order of their numbers, at once or after so many seconds. It stops at the first
@@ -24,7 +17,7 @@ impl Asking {
     {
         for class in 0..CLASSES {
             let reply = self.ask(class, ShardOp::Flush { delay, moment }, gate);
-            if lacks_memory(reply) {
+            if lacks_memory(&reply) {
                 return ShardReply::NoMemory;
             }
         }

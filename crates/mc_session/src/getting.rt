@@ -42,8 +42,9 @@ impl Found {
 }
 
 impl Asking {
-    /// Asks for the items of the keys, one after another, which go at another moment where there is an exptime. A key without an item is not shown. Where memory was wanting
-    /// for one of them, that alone is shown. An `Err`, for want of memory, has asked for the first of the keys.
+    /// Asks for the items of the keys, one after another. Where there is an exptime, the items go at another moment. A
+    /// key without an item is not shown. Where memory was wanting for one of them, that alone is shown. An `Err`, for
+    /// want of memory, has asked for the first of the keys.
     pub(crate) fn get_all<G: Gate>(
         &mut self,
         alloc: Global,

@@ -7,10 +7,9 @@ ghost use Rattle.mc_model.specs.Showing.{shown_of_fault};
 ghost use Rattle.mc_session.specs.Session.{first_serving, with_shown, Answered, GaveUp};
 
 use crate::asking::Asking;
-use crate::showing::fault_shown;
 use mc_item::{Bytes, LATEST_TIME};
 use mc_model::{Command, Fault};
-use mc_reply::render;
+use mc_reply::{fault_shows, render};
 use std::alloc::{AllocError, Global};
 use std::hash::RandomState;
 use std::marker::Model;
@@ -86,7 +85,7 @@ impl Session {
     /// Each operation passes the gate as `at(1, n)`, where `n` of them were run before: one for each key, 64 for
     /// `flush_all` and for `stats` unless memory is wanting, and none for `version`, `verbosity` and `quit`. A value is
     /// copied once, out of its item. An `Err`, for want of memory, leaves the bytes that are still to be written; the clock
-    /// is read, and the classes have replied to the command, or to a `get` of the first of its keys.
+    /// is read, and the classes have replied to the command, or to a `get` or `gat` of the first of its keys.
     pub fn answer<W: Clock, G: Gate>(
         &mut self,
         command: Command,
@@ -107,7 +106,7 @@ impl Session {
         ensures ok { OnOk result (self.new ≡ with_shown self.old (shown_of_fault fault)) }
         ensures err { OnErr result (self.new ≡ self.old) }
     {
-        render(&fault_shown(fault), &mut self.out)
+        render(&fault_shows(fault), &mut self.out)
     }
 
     /// Whether at least [`FULL`] bytes are gathered.

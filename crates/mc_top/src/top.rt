@@ -17,11 +17,12 @@ pub const MOST_INPUT: u64 = 1 << 40;
 /// Runs the program on the words behind its name, which are `run --turns` as yet.
 ///
 /// It reads the input as it comes, to its end or to a `quit`, at most 2^40 bytes. Each command is asked of the one
-/// trustee in turn, which owns the 64 classes, each of at most 4,096 items, and what it shows is written in memcached's words. Before each read all
-/// that came whole is answered and written. The clock is read once for each command, and the gate is passed before
-/// each operation of a class. Keys are found by `hasher`. The call always returns. What it keeps in memory is the items, one line or value of the
-/// input, a read's buffer of 65,536 bytes, fewer than 65,536 bytes of output, and the reply to one command, which is held
-/// whole, and twice: as its values, and as its bytes.
+/// trustee in turn, which owns the 64 classes, each of at most 4,096 items, and what it shows is written in
+/// memcached's words. Before each read all that came whole is answered and written. The clock is read once for each
+/// command, and the gate is passed before each operation of a class. Keys are found by `hasher`. The call always
+/// returns. What it keeps in memory is the items, one line or value of the input, a read's buffer of 65,536 bytes,
+/// fewer than 65,536 bytes of output, and the reply to one command, which is held whole, and twice: as its values, and
+/// as its bytes.
 pub fn top_in_turns<A: Source, B: Sink, W: Clock, G: Gate>(
     alloc: Global,
     words: &[String],

@@ -1,0 +1,7 @@
+mod PartSteps
+mod Items
+mod Shows
+mod LaunchSteps
+mod Placed
+mod KeyParts
+mod Finding

@@ -1,0 +1,7 @@
+pub mod Places
+pub mod Desks
+pub mod DeskLaws
+pub mod Plans
+pub mod Joins
+pub mod Launches
+pub mod Laws
