@@ -1,11 +1,13 @@
 #!/usr/bin/env bash
 # Times `trustmc run --turns` on a stream of mixed commands with values of 100 bytes, beside memcached fed the same stream
 # over loopback by `nc`, three times in one run, and compares what the two wrote byte by byte:
-#     bench/stream.sh [commands] [keys]
-# It needs memcached, nc and the program that `rt ci` leaves, and is no part of the gate.
+#     bench/stream.sh [commands] [keys] [another trustmc to compare with..]
+# Beside each time by the clock stands the processor time. It needs memcached, nc and the program that `rt ci` leaves, and is no
+# part of the gate.
 set -e
 commands=${1:-1000000}
 keys=${2:-100000}
+shift $(($# < 2 ? $# : 2))
 top=$(cd "$(dirname "$0")/.." && pwd)
 room=$(mktemp -d)
 trap 'rm -rf "$room"; [ -n "$server" ] && kill "$server"' EXIT
@@ -31,14 +33,13 @@ bytes=$(wc -c <"$room/stream")
 echo "$commands commands, $keys keys, $bytes bytes"
 
 seconds() {
-    local start=$EPOCHREALTIME
-    "$@"
-    local end=$EPOCHREALTIME
-    awk -v a="$start" -v b="$end" -v bytes="$bytes" 'BEGIN { printf "%.2f s, %.0f MB/s\n", b - a, bytes / (b - a) / 1e6 }' >&2
+    local TIMEFORMAT='%R %U %S'
+    { time "$@"; } 2>"$room/time"
+    awk -v bytes="$bytes" 'END { printf "%.2f s, %.0f MB/s, %.2f s of the processor\n", $1, bytes / $1 / 1e6, $2 + $3 }' "$room/time"
 }
 
 through_wc() { wc -c <"$room/stream" >/dev/null; cat "$room/stream" | wc -c >/dev/null; }
-through_trustmc() { "$top/crates/trustmc/out/trustmc" run --turns <"$room/stream" >"$room/trustmc"; }
+through_trustmc() { "$1" run --turns <"$room/stream" >"$room/trustmc"; }
 through_memcached() { nc -N 127.0.0.1 11999 <"$room/stream" >"$room/memcached"; }
 
 memcached -u nobody -U 0 -l 127.0.0.1 -p 11999 -m 2048 -t 1 &
@@ -46,7 +47,9 @@ server=$!
 sleep 1
 for round in 1 2 3; do
     echo "cat to wc:"; seconds through_wc
-    echo "trustmc:"; seconds through_trustmc
+    for program in "$@" "$top/crates/trustmc/out/trustmc"; do
+        echo "$program:"; seconds through_trustmc "$program"
+    done
     echo "memcached by nc:"; seconds through_memcached
 done
 cmp "$room/trustmc" "$room/memcached" && echo "both wrote the same $(wc -c <"$room/trustmc") bytes"

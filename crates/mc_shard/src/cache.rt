@@ -1,7 +1,8 @@
 //! Changes of one item where it stands, which goes first then.
-ghost use Rattle.std.specs.Prelude.{◌≡◌, ◌++◌, OnOk, OnErr, IfSome, option_map};
+ghost use Rattle.std.specs.Prelude.{◌≡◌, ◌-◌, OnOk, OnErr, IfSome, option_map, length, take};
 ghost use Rattle.std.specs.List.{IsDistinct};
 ghost use Rattle.std.specs.Map.{keys_of};
+ghost use Rattle.lru.specs.LruCache.{last_entry};
 ghost use Rattle.mc_model.specs.Items.{same_key, item_at, first, without};
 ghost use Rattle.mc_model.specs.Rows.{with_due, with_value};
 ghost use Rattle.mc_shard.specs.Kept.{due_of, appended, prepended};
@@ -92,4 +93,13 @@ pub(crate) fn take_out(cache: &mut Cache, key: &Key) -> Option<(Key, KeptItem)>
     ensures cap { cache.new.cap ≡ cache.old.cap }
 {
     cache.pop_entry(key)
+}
+
+/// Takes the last item out, with its key.
+pub(crate) fn take_last(cache: &mut Cache) -> Option<(Key, KeptItem)>
+    ensures last { result ≡ last_entry cache.old.entries }
+    ensures entries { cache.new.entries ≡ take (length cache.old.entries - 1) cache.old.entries }
+    ensures cap { cache.new.cap ≡ cache.old.cap }
+{
+    cache.pop_lru()
 }

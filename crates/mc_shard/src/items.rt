@@ -5,7 +5,7 @@ ghost use Rattle.mc_model.specs.Items.{item_at, count_of, live, first, without};
 ghost use Rattle.mc_model.specs.Rows.{with_due, with_value};
 ghost use Rattle.mc_shard.specs.Kept.{kept_at, after_settle, after_put, after_change, after_use, after_remove, same, appended, prepended, IsPaired};
 
-use crate::cache::{Cache, append, prepend, rewrite, set_due, take_out, use_item};
+use crate::cache::{Cache, append, prepend, rewrite, set_due, take_last, take_out, use_item};
 use crate::index::{note, sweep, unnote};
 use crate::item::KeptItem;
 use lru::LruCache;
@@ -51,7 +51,7 @@ fn trim(cache: &mut Cache, index: &mut BTreeSet<(u64, Key)>, bound: u32)
     if cache.len() as u64 <= u64::from(bound) {
         return;
     }
-    if let Some((key, item)) = cache.pop_lru() {
+    if let Some((key, item)) = take_last(cache) {
         let due = item.due();
         unnote(index, due, Expiry::Never, key);
     }

@@ -22,11 +22,11 @@ impl Entrusted for Shard {
 
     /// Runs an operation. A `NoMemory` leaves all as it was.
     ///
-    /// The cost is one or two searches of the key by its hash, and a copy of the value's bytes
-    /// where the operation stores or gets them, joins them to others or writes a number. An item
-    /// that goes at a moment costs a logarithm of the number of such items, when it is put and when
-    /// it goes, which is at the first operation after. `Count` looks at no item. A `Flush` that is
-    /// done, and one that comes due, drops all items.
+    /// The cost is one or two searches of the key by its hash, three where bytes are joined to a
+    /// value, and a copy of the value's bytes where the operation stores or gets them, joins them to
+    /// others or writes a number. An item that goes at a moment costs a logarithm of the number of
+    /// such items, when it is put and when it goes, which is at the first operation after. `Count`
+    /// looks at no item. A `Flush` that is done, and one that comes due, drops all items.
     fn run(&mut self, op: ShardOp) -> ShardReply
         ensures { IsRun shard_kind self.old op self.new result }
     {

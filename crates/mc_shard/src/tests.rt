@@ -336,6 +336,39 @@ fn small_classes(rt: HostRuntime) -> Result<(), Fail> {
     Ok(())
 }
 
+// Each class has a bound of its own. (The keys are of two classes, the one next to the other.)
+#[test]
+fn classes_of_one_item(rt: HostRuntime) -> Result<(), Fail> {
+    let alloc = rt.alloc();
+    let mut first = Shard::new(alloc, 33, 0, 1, RandomState::new(&rt)?)?;
+    let mut second = Shard::new(alloc, 34, 0, 1, RandomState::new(&rt)?)?;
+    assert_eq!(rt;
+        said(alloc, &mut first, "1 set a 0 0 x = -")?.as_str(),
+        "stored"
+    );
+    assert_eq!(rt;
+        said(alloc, &mut second, "1 set b 0 0 y = -")?.as_str(),
+        "stored"
+    );
+    assert_eq!(rt;
+        said(alloc, &mut first, "1 get a 0 0 - = -")?.as_str(),
+        "0 97 x"
+    );
+    assert_eq!(rt;
+        said(alloc, &mut second, "1 get b 0 0 - = -")?.as_str(),
+        "0 98 y"
+    );
+    assert_eq!(rt;
+        said(alloc, &mut first, "1 set ! 0 0 z = -")?.as_str(),
+        "stored"
+    );
+    assert_eq!(rt;
+        said(alloc, &mut first, "1 get a 0 0 - = -")?.as_str(),
+        "missing"
+    );
+    Ok(())
+}
+
 // A store of so many bytes of `x` in the key `a`.
 fn large(alloc: Global, how: How, length: usize) -> Result<ShardOp, Fail> {
     Ok(ShardOp::Store {

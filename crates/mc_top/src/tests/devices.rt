@@ -216,13 +216,14 @@ fn an_input_has_a_limit(rt: HostRuntime) -> Result<(), Fail> {
 #[test]
 fn other_words_are_bad(rt: HostRuntime) -> Result<(), Fail> {
     let alloc = rt.alloc();
-    let rows: [&[&str]; 6] = [
+    let rows: [&[&str]; 7] = [
         &[],
         &["run"],
         &["--turns"],
         &["--turns", "run"],
         &["run", "--turns", "--turns"],
         &["run", "--turn"],
+        &["run", "--turns", "--items", "0"],
     ];
     for row in rows {
         let words = words(alloc, row)?;
