@@ -13,16 +13,10 @@ use Rattle.tm_client.specs.declared.trust.Trust.{Trust}
 use Rattle.tm_client.specs.declared.answers.Arrival.{Arrival}
 use Rattle.tm_client.specs.declared.lane.Waiting.{Waiting}
 use Rattle.tm_client.specs.Lanes.{asks_in, bringing, IsAccepted, name_of, names_of}
-use Rattle.tm_client.specs.Clients.{is_at, given, entrusted, IsTakeable, come_of, brought_in, entrusted_in}
+use Rattle.tm_client.specs.Clients.{given, entrusted, IsTakeable, come_of, brought_in, entrusted_in}
 use Rattle.tm_client.specs.SideLaws.{brings_in}
 use Rattle.tm_client.specs.Turns.{arrivals_of, gifts_from}
-
--- at its own trustee an id counts as it does there, and at no other
-at_own : (t id named : ℕ) → is_at t id t named ≡ cond (named == id) 1 0
-at_own t id named = ap (λ e. cond e (cond (named == id) 1 0) 0) (eq-eqb t t refl)
-
-at_other : (u t id named : ℕ) → u ≢ t → is_at u id t named ≡ 0
-at_other u t id named ne = ap (λ e. cond e (cond (named == id) 1 0) 0) (ne_eqb t u (λ e. ne (sym e)))
+use Rattle.tm_client.proofs.Listed.{at_own, at_other}
 
 pub given-append : (t id : ℕ) (xs ys : List Trust) → given t id (xs ++ ys) ≡ given t id xs + given t id ys
 given-append t id [] ys = omega arith

@@ -1,4 +1,5 @@
 pub mod Accepting
+pub mod Allowed
 pub mod Arriving
 pub mod Asked
 pub mod Bringing
@@ -7,6 +8,7 @@ pub mod Fronts
 pub mod GiftTaken
 pub mod Going
 pub mod Leaving
+pub mod Listed
 pub mod Living
 pub mod Marked
 pub mod Moving

@@ -1,5 +1,5 @@
 -- A client that took in what came of a trustee stays a client.
-use Rattle.std.proofs.Common.{◌≡◌, ◌≢◌, ℕ, ◌+◌, ◌<◌, ◌≤◌, ◌⊎◌, true, false, List, [], ◌∷◌, ◌++◌, length, map, drop, inl, inr, refl, sym, ◌∙◌, ap, subst, arith, length-append, length-set, length-drop}
+use Rattle.std.proofs.Common.{◌≡◌, ◌≢◌, ℕ, ◌+◌, ◌<◌, ◌≤◌, ◌⊎◌, true, false, List, [], ◌∷◌, ◌++◌, length, map, drop, inl, inr, refl, sym, ◌∙◌, ap, subst, arith, length-append, length-set}
 use Rattle.std.specs.Prelude.{Bool, slice_get}
 use Rattle.std.specs.List.{AllByRecursion}
 use Rattle.std.specs.declared.option.Option.TheVariants.{Some}
@@ -16,7 +16,8 @@ use Rattle.tm_pair.specs.Calls.{Gets}
 use Rattle.tm_client.specs.declared.lane.Lane.{Lane}
 use Rattle.tm_client.specs.declared.books.Books.{Books}
 use Rattle.tm_client.specs.Lanes.{asks_in, out_requests, out_room, bringing, IsAccepted, name_of, names_of, unanswered, IsLane}
-use Rattle.tm_client.specs.Clients.{listed, come_of, entrusted_in, given, brought_in, lane_coming, lanes_coming, lanes_unanswered, lanes_counting, IsTakeable, IsClient}
+use Rattle.tm_client.specs.Listing.{listed, held_count}
+use Rattle.tm_client.specs.Clients.{come_of, entrusted_in, given, brought_in, lane_coming, lanes_coming, lanes_unanswered, lanes_counting, IsTakeable, IsClient}
 use Rattle.tm_client.specs.Turns.{arrivals_of, gifts_from}
 use Rattle.tm_client.specs.SideLaws.{Brings}
 use Rattle.tm_client.specs.Receiving.{HasReceived}
@@ -158,7 +159,7 @@ module _ {V C D O R T : Type 0} (view : D → ClientView V O R T) (openings : �
       )
 
   becomes_holds : (id : ℕ)
-      → listed t id old.held.items + (entrusted_in t id new.arrived.items + given t id new.gifts.items) + gave id ((view becomes.side).sent ++ becomes.waits.items)
+      → listed t id old.held + (entrusted_in t id new.arrived.items + given t id new.gifts.items) + gave id ((view becomes.side).sent ++ becomes.waits.items)
       ≡ came (openings t) old.number (view becomes.side).sent (view becomes.side).got id
   becomes_holds id =
       let before = is.holds t lane id h.of_lane in
@@ -175,7 +176,7 @@ module _ {V C D O R T : Type 0} (view : D → ClientView V O R T) (openings : �
       omega (arith, before, joined, brought, arrived, more, here, gifts, came_here, old_place, new_place, sent)
 
   other_holds : (u : ℕ) (other : Lane V C D O R T) (id : ℕ) → u ≢ t → slice_get old.lanes.items u ≡ Some other
-      → listed u id old.held.items + (entrusted_in u id new.arrived.items + given u id new.gifts.items) + gave id ((view other.side).sent ++ other.waits.items)
+      → listed u id old.held + (entrusted_in u id new.arrived.items + given u id new.gifts.items) + gave id ((view other.side).sent ++ other.waits.items)
       ≡ came (openings u) old.number (view other.side).sent (view other.side).got id
   other_holds u other id ne there =
       let before = is.holds u other id there in
@@ -188,7 +189,7 @@ module _ {V C D O R T : Type 0} (view : D → ClientView V O R T) (openings : �
       omega (arith, before, joined, none, arrived, more, nothing, gifts)
 
   holds_are : (u : ℕ) (other : Lane V C D O R T) (id : ℕ) → slice_get new.lanes.items u ≡ Some other
-      → listed u id new.held.items + (entrusted_in u id new.arrived.items + given u id new.gifts.items) + gave id ((view other.side).sent ++ other.waits.items)
+      → listed u id new.held + (entrusted_in u id new.arrived.items + given u id new.gifts.items) + gave id ((view other.side).sent ++ other.waits.items)
       ≡ came (openings u) new.number (view other.side).sent (view other.side).got id
   holds_are u other id e =
       rw (h.number, h.held) (
@@ -254,7 +255,7 @@ module _ {V C D O R T : Type 0} (view : D → ClientView V O R T) (openings : �
         let now = h.coming in
         let room = was.room in
         let most = h.most in
-        let held = ap (λ v. length v.items) h.held in
+        let held = ap held_count h.held in
         omega (arith, before, now, room, most, held, fits);
     arrived =
         rw (h.arrived, as_many)

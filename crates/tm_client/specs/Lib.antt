@@ -2,6 +2,7 @@ pub mod Asking
 pub mod Clients
 pub mod Due
 pub mod Lanes
+pub mod Listing
 pub mod Marking
 pub mod Posting
 pub mod Receiving

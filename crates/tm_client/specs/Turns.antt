@@ -27,7 +27,7 @@ use Rattle.tm_client.specs.declared.answers.Turn.{Turn}
 use Rattle.tm_client.specs.declared.answers.Turn.TheVariants.{Sent, Pending, Got, Idle}
 use Rattle.tm_client.specs.declared.books.Books.{Books}
 use Rattle.tm_client.specs.Lanes.{out_requests}
-use Rattle.tm_client.specs.Clients.{listed}
+use Rattle.tm_client.specs.Listing.{listed, held_count}
 
 -- the trusts that come as gifts of trustee t to client c
 abbrev pub gifts_from : ℕ → ℕ → List Name → List Trust
@@ -82,7 +82,7 @@ module _ {V O R T C D Table Owner : Type 0} (theory : Theory V O R T Table D Own
 
   -- the trusts that a client may have beside those that it has and those that may come
   abbrev pub free_trusts : Books V C D O R T → ℕ
-  free_trusts books = books.most - (length books.held.items + books.coming)
+  free_trusts books = books.most - (held_count books.held + books.coming)
 
   -- what is due at a trustee where nothing is out: the first of what waits; where nothing waits, the Bye; else an empty batch
   abbrev pub IsByeDue : Lane V C D O R T → Type 0
@@ -137,7 +137,7 @@ module _ {V O R T C D Table Owner : Type 0} (theory : Theory V O R T Table D Own
     -- each answer that came is that of the entry of its own request in it, and one to such a request
     pub entries : answers_in (theory.client_view lane.side).got ≡ answered (theory.client_view lane.side).place (theory.client_view lane.side).seen
     pub fits : AllZip Fits (ran (theory.client_view lane.side).place (theory.client_view lane.side).seen) (answers_in (theory.client_view lane.side).got)
-    pub live : (id : ℕ) → has_bye (theory.client_view lane.side).sent ≡ false → 1 ≤ listed t id books.held.items
+    pub live : (id : ℕ) → has_bye (theory.client_view lane.side).sent ≡ false → 1 ≤ listed t id books.held
         → IsHeld (state_after kind opening (theory.client_view lane.side).seen) (theory.client_view lane.side).place id
 
   -- a turn at trustee t

@@ -13,6 +13,8 @@ mod asks;
 mod books;
 mod client;
 mod due;
+mod giving_up;
+mod holds;
 mod lane;
 mod laws;
 mod marking;
@@ -25,8 +27,9 @@ mod turning;
 pub use answers::{Arrival, Got, Refused, Turn, Why};
 pub use books::Books;
 pub use client::Client;
+pub use holds::{Hold, Holds};
 pub use lane::{Lane, Waiting};
 pub use laws::{
     answers_are_of_entries, byes_may_go, collects_bring, held_is_live, rest_is_held, waits_may_go,
 };
-pub use trust::{Hold, Trust};
+pub use trust::Trust;

@@ -1,13 +1,12 @@
-use Rattle.std.proofs.Common.{rules, ◌≡◌, ◌+◌, ◌-◌, ◌≤◌, min, length, arith, refl, sym, ◌∙◌, ap, subst}
-use Rattle.std.specs.Prelude.{slice_get, slice_set}
+use Rattle.std.proofs.Common.{◌≡◌, ◌+◌, ◌-◌, min, length, arith, refl, sym, ◌∙◌, ap, subst}
 use Rattle.tm_batch.specs.declared.limits.TheConstants.{MOST_ROOM}
-use Rattle.std.specs.declared.option.Option.TheVariants.{None, Some}
+use Rattle.std.specs.declared.option.Option.TheVariants.{None}
 use Rattle.std.proofs.lemmas.Option.{slice_get_read}
 use Rattle.tm_pair.specs.Calls.{Publishes}
 use Rattle.tm_pair.specs.Sides.{IsGoodClient}
+use Rattle.tm_client.specs.Listing.{held_count}
 use Rattle.tm_client.specs.Lanes.{IsLane}
 use Rattle.tm_client.specs.Clients.{come_of}
-use Rattle.tm_client.specs.Turns.{Sees}
 use Rattle.tm_client.proofs.Fronts.{some_has, set_there, set_same}
 use Rattle.tm_client.proofs.Leaving.{left_goes, left_is_due, nothing_is_due}
 use Rattle.tm_client.proofs.Seeing.{sees_at}
@@ -89,7 +88,7 @@ returns-clause-turned g c =
     let (openings, same, is) = c.requires.client in
     let posts = c.post_due-count.ensures in
     let becomes = c.post_due-count.new.lane in
-    let length_is : c.len.result ≡ length books.held.items = let many = c.len.ensures in omega (arith, many) in
+    let length_is : c.len.result ≡ held_count books.held = c.len.ensures in
     let good =
     subst (λ s. IsGoodClient g.S.Entrusted.kind s (theory.client_view becomes.side)) (posts.keeps.opening ∙ sym same)
     (g.met.P.PairTable.laws.client_is_good c.post_due-count.new.table becomes.side posts.keeps.mine) in
