@@ -16,6 +16,7 @@ mod due;
 mod lane;
 mod laws;
 mod marking;
+mod opening;
 mod post;
 mod taking;
 mod trust;

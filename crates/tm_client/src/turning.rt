@@ -1,13 +1,16 @@
 //! What a turn does with batches.
 ghost use Rattle.std.specs.Prelude.{◌≡◌, ◌+◌, ◌-◌, ◌<◌, ◌≤◌, [], ◌∷◌, ◌++◌, length, drop, take, min};
 ghost use Rattle.tm_batch.specs.declared.limits.TheConstants.{MOST_REQUESTS, MOST_ROOM};
+ghost use Rattle.tm_client.specs.Asking.{At};
+ghost use Rattle.tm_client.specs.Receiving.{MayReceive, HasTakenIn};
 ghost use Rattle.tm_client.specs.Turns.{arrivals_of, gifts_from};
 
 use crate::answers::Arrival;
+use crate::books::Books;
 use crate::trust::Trust;
 use arrayvec::ArrayVec;
 use circular_buffer::HeapCircularBuffer;
-use tm_batch::{Answer, MOST_REQUESTS, Name};
+use tm_batch::{Answer, AnswerBatch, MOST_REQUESTS, Name};
 use tm_pair::FitsBatches;
 
 /// Lets the first of some continuations, if there is one, arrive with an answer.
@@ -73,6 +76,34 @@ pub(crate) fn receive(
             at: 0,
         });
     }
+}
+
+/// Takes in the answers of a trustee to the batch that was out, after which nothing is out. How many answers, gifts
+/// and completions came.
+pub(crate) fn take_in<S: FitsBatches, C: Drop, D>(
+    books: &mut Books<S, C, D>,
+    trustee: u32,
+    answers: AnswerBatch<S>,
+) -> u32
+    requires trustee { trustee < length books.old.lanes.items }
+    requires room { At books.old trustee (λ lane. MayReceive answers lane books.old) }
+    ensures received { HasTakenIn trustee answers books.old books.new }
+    ensures count { result ≡ length answers.answers.items + length answers.gifts.items + length answers.completions.items }
+{
+    let gifts = answers.gifts.len() as u32;
+    let count = answers.answers.len() as u32 + gifts + answers.completions.len() as u32;
+    let lane = &mut books.lanes[trustee as usize];
+    books.coming -= lane.room - gifts;
+    lane.out = false;
+    lane.room = 0;
+    arrive(
+        trustee,
+        answers.answers,
+        &mut lane.afters,
+        &mut books.arrived,
+    );
+    receive(trustee, books.number, answers.gifts, &mut books.gifts);
+    count
 }
 
 /// As many as are free, at most 16.

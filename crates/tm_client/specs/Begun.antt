@@ -1,0 +1,72 @@
+-- How a client begins.
+use Rattle.std.specs.Prelude.{◌≡◌, ℕ, ◌+◌, ◌<◌, ◌≤◌, false, List, [], ◌∷◌, length}
+use Rattle.std.specs.List.{AllByRecursion, AllZip}
+use Rattle.tm_batch.specs.declared.config.Config.{Config}
+use Rattle.tm_batch.specs.declared.config.First.{First}
+use Rattle.tm_batch.specs.declared.message.Name.{Name}
+use Rattle.tm_model.specs.State.{State, holds_at}
+use Rattle.tm_model.specs.Opening.{IsBuildable, opening_of}
+use Rattle.tm_client.specs.declared.lane.Lane.{Lane}
+use Rattle.tm_client.specs.declared.trust.Trust.{Trust}
+use Rattle.tm_client.specs.declared.books.Books.{Books}
+use Rattle.tm_pair.specs.Views.{ClientView}
+use Rattle.tm_client.specs.Asking.{IsHeldBy}
+use Rattle.tm_client.specs.Clients.{is_at, IsClient}
+
+-- how often some names, by the numbers of their trustees, have an id of trustee t
+abbrev pub named_at : ℕ → ℕ → List (ℕ × Name) → ℕ
+named_at t id [] = 0
+named_at t id (h ∷ held) = is_at t id h.0 h.1.id + named_at t id held
+
+module _ (V O R T : Type 0) where
+  -- the parts of client `number` at first, by a config and the whole list of the build: so many sides, one for each trustee, and names
+  -- of what it holds, by the numbers of their trustees, which is at each trustee what the opening state gives it
+  pub record MayBegin (number : ℕ) (config : Config) (whole : List (First V)) (sides : ℕ) (held : List (ℕ × Name)) : Type 0 where
+    pub buildable : IsBuildable config whole
+    pub number_of : number < config.clients
+    pub sides_of : sides ≡ config.trustees
+    pub trustees : AllByRecursion (λ h. h.0 < config.trustees) held
+    pub given : (t id : ℕ) → t < config.trustees
+        → named_at t id held ≡ holds_at (opening_of {V = V} {O = O} {R = R} {T = T} t config whole) number id
+    pub most : length held ≤ config.trusts
+
+  -- they may be the parts of one
+  abbrev pub IsBeginnable : ℕ → Config → ℕ → List (ℕ × Name) → Type 0
+  IsBeginnable number config sides held = (whole : List (First V)) × MayBegin number config whole sides held
+
+module _ {V O R T : Type 0} where
+  -- these are the states in which the trustees open
+  abbrev pub AreOpenings : Config → List (First V) → (ℕ → State V O R T) → Type 0
+  AreOpenings config whole openings = (t : ℕ) → t < config.trustees → openings t ≡ opening_of t config whole
+
+module _ {V C D O R T : Type 0} where
+  -- a lane at first: nothing was accepted, nothing waits, and neither `fetch` nor `close` was called
+  pub record IsNewLane (side : D) (lane : Lane V C D O R T) : Type 0 where
+    pub side_of : lane.side ≡ side
+    pub waits : lane.waits.items ≡ []
+    pub afters : lane.afters.items ≡ []
+    pub counting : lane.counting ≡ 0
+    pub fetching : lane.fetching ≡ false
+    pub closing : lane.closing ≡ false
+
+  -- client `number` at first, with these sides
+  pub record HasBegun (number : ℕ) (config : Config) (sides : List D) (books : Books V C D O R T) : Type 0 where
+    pub number_of : books.number ≡ number
+    pub clients : books.clients ≡ config.clients
+    pub most : books.most ≡ config.trusts
+    pub lanes : AllZip IsNewLane sides books.lanes.items
+    pub arrived : books.arrived.items ≡ []
+    pub gifts : books.gifts.items ≡ []
+    pub coming : books.coming ≡ 0
+
+  -- the trust of a name of what a client holds at first
+  pub record IsFirstTrust (books : Books V C D O R T) (held : ℕ × Name) (trust : Trust) : Type 0 where
+    pub trustee : trust.trustee ≡ held.0
+    pub name : trust.name ≡ held.1
+    pub listed : IsHeldBy books trust
+
+  -- whatever the list of the build, it is a client at the states in which the trustees open
+  abbrev pub IsFirstClient : (D → ClientView V O R T) → ℕ → Config → ℕ → List (ℕ × Name) → Books V C D O R T → Type 0
+  IsFirstClient view number config sides held books =
+      (whole : List (First V)) (openings : ℕ → State V O R T) → MayBegin V O R T number config whole sides held
+      → AreOpenings config whole openings → IsClient view openings books
