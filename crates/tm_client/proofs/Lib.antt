@@ -8,9 +8,11 @@ pub mod GiftTaken
 pub mod Going
 pub mod Leaving
 pub mod Living
+pub mod Looking
 pub mod Marked
 pub mod Moving
 pub mod Receiving
 pub mod Seeing
 pub mod Sending
 pub mod Taken
+pub mod Turned

@@ -35,22 +35,22 @@ fn arrive_first<S: FitsBatches, C: Drop>(
     }
 }
 
-/// Lets each of some continuations arrive with the answer of its position.
+/// Lets each of some continuations arrive with the answer of its position, of which none is left then.
 pub(crate) fn arrive<S: FitsBatches, C: Drop>(
     trustee: u32,
-    answers: ArrayVec<Answer<S>, MOST_REQUESTS>,
+    batch: &mut AnswerBatch<S>,
     afters: &mut HeapCircularBuffer<C>,
     arrived: &mut HeapCircularBuffer<Arrival<S, C>>,
 )
-    requires room { length arrived.old.items + min (length answers.items) (length afters.old.items) ≤ arrived.old.capacity }
-    ensures arrived { arrived.new.items ≡ arrived.old.items ++ arrivals_of trustee afters.old.items answers.items }
+    requires room { length arrived.old.items + min (length batch.old.answers.items) (length afters.old.items) ≤ arrived.old.capacity }
+    ensures arrived { arrived.new.items ≡ arrived.old.items ++ arrivals_of trustee afters.old.items batch.old.answers.items }
     ensures capacity { arrived.new.capacity ≡ arrived.old.capacity }
-    ensures afters { afters.new.items ≡ drop (length answers.items) afters.old.items }
+    ensures afters { afters.new.items ≡ drop (length batch.old.answers.items) afters.old.items }
     ensures afters_room { afters.new.capacity ≡ afters.old.capacity }
+    ensures gifts { batch.new.gifts ≡ batch.old.gifts }
 {
-    let mut answers = answers;
-    while !answers.is_empty() {
-        let answer = answers.remove(0);
+    while !batch.answers.is_empty() {
+        let answer = batch.answers.remove(0);
         arrive_first(trustee, answer, afters, arrived);
     }
 }
@@ -83,26 +83,22 @@ pub(crate) fn receive(
 pub(crate) fn take_in<S: FitsBatches, C: Drop, D>(
     books: &mut Books<S, C, D>,
     trustee: u32,
-    answers: AnswerBatch<S>,
+    batch: AnswerBatch<S>,
 ) -> u32
     requires trustee { trustee < length books.old.lanes.items }
-    requires room { At books.old trustee (λ lane. MayReceive answers lane books.old) }
-    ensures received { HasTakenIn trustee answers books.old books.new }
-    ensures count { result ≡ length answers.answers.items + length answers.gifts.items + length answers.completions.items }
+    requires room { At books.old trustee (λ lane. MayReceive batch lane books.old) }
+    ensures received { HasTakenIn trustee batch books.old books.new }
+    ensures count { result ≡ length batch.answers.items + length batch.gifts.items + length batch.completions.items }
 {
-    let gifts = answers.gifts.len() as u32;
-    let count = answers.answers.len() as u32 + gifts + answers.completions.len() as u32;
+    let mut batch = batch;
+    let gifts = batch.gifts.len() as u32;
+    let count = batch.answers.len() as u32 + gifts + batch.completions.len() as u32;
     let lane = &mut books.lanes[trustee as usize];
     books.coming -= lane.room - gifts;
     lane.out = false;
     lane.room = 0;
-    arrive(
-        trustee,
-        answers.answers,
-        &mut lane.afters,
-        &mut books.arrived,
-    );
-    receive(trustee, books.number, answers.gifts, &mut books.gifts);
+    arrive(trustee, &mut batch, &mut lane.afters, &mut books.arrived);
+    receive(trustee, books.number, batch.gifts, &mut books.gifts);
     count
 }
 
