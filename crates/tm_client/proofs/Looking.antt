@@ -1,9 +1,8 @@
 -- A client that looked for the answers to a batch that is out.
 use Rattle.std.proofs.Common.{◌≡◌, ◌≢◌, ℕ, zero, suc, ◌+◌, ◌*◌, ◌<◌, ◌≤◌, true, false, List, [], ◌∷◌, ◌++◌, length, min, drop, inl, inr, refl, sym, ◌∙◌, ap, subst, arith, append_assoc, append-nil, length-append, length-set}
-use Rattle.std.specs.Prelude.{slice_get, slice_set}
+use Rattle.std.specs.Prelude.{slice_get, slice_set, IsSomeAnd}
 use Rattle.std.specs.declared.option.Option.{Option}
 use Rattle.std.specs.declared.option.Option.TheVariants.{None, Some}
-use Rattle.std.proofs.lemmas.List.{length-map}
 use Rattle.std.proofs.lemmas.Option.{slice_get_within}
 use Rattle.tm_batch.specs.declared.limits.TheConstants.{WINDOW}
 use Rattle.tm_batch.specs.declared.message.AnswerBatch.{AnswerBatch}
@@ -15,7 +14,8 @@ use Rattle.tm_pair.specs.Views.{BatchView, ClientView}
 use Rattle.tm_pair.specs.Calls.{IsPending, AreAnswers, Gets}
 use Rattle.tm_client.specs.declared.lane.Lane.{Lane}
 use Rattle.tm_client.specs.declared.books.Books.{Books}
-use Rattle.tm_client.specs.Lanes.{asks_in, out_requests, out_room, is_out, name_of, names_of, unanswered, IsLane}
+use Rattle.tm_client.specs.Lanes.{asks_in, out_requests, out_room, is_out, unanswered, IsLane}
+use Rattle.tm_client.specs.Asking.{At}
 use Rattle.tm_client.specs.Clients.{total, listed, come_of, entrusted_in, given, brought_in, lane_coming, lanes_coming, lanes_unanswered, lanes_counting, IsClient}
 use Rattle.tm_client.specs.Receiving.{MayReceive, HasReceived, HasTakenIn}
 use Rattle.tm_client.specs.Turns.{arrivals_of, gifts_from}
@@ -84,7 +84,7 @@ module _ {V C D O R T : Type 0} (view : D → ClientView V O R T) where
             let most : lanes_counting view books.lanes.items ≤ WINDOW * length books.lanes.items =
             total_most (λ lane. lane.counting) WINDOW books.lanes.items (λ u other at. (is.lanes u other at).window) in
             let own = one_of_total (λ lane. length (unanswered view lane)) books.lanes.items t lane there in
-            let names = sym (length-map lane.afters.items (λ w. w.name)) ∙ ap length was.names ∙ length-map (unanswered view lane) name_of in
+            let names = was.afters in
             let capacity = is.arrived_room in
             omega (arith, counting, most, own, names, capacity);
         gifts =
@@ -94,6 +94,22 @@ module _ {V C D O R T : Type 0} (view : D → ClientView V O R T) where
         fit = omega (arith, fit, room);
         coming = omega (arith, room, coming, one);
       }
+
+  -- so it has where only its side there changed
+  pub looked_may_receive : (t : ℕ) (a : AnswerBatch V O R T) (lane : Lane V C D O R T) (side : D) (old mid : Books V C D O R T)
+      → slice_get old.lanes.items t ≡ Some lane → mid.lanes.items ≡ slice_set old.lanes.items t (record lane { side = side })
+      → mid ≡ record old { lanes = mid.lanes } → MayReceive a lane old → At mid t (λ l. MayReceive a l mid)
+  looked_may_receive t a lane side old mid there lanes_are rest may =
+      let looked : Lane V C D O R T = record lane { side = side } in
+      let within = slice_get_within old.lanes.items t lane there in
+      let now : slice_get mid.lanes.items t ≡ Some looked = ap (λ xs. slice_get xs t) lanes_are ∙ set_there old.lanes.items t looked within in
+      let still : MayReceive a looked mid = record {
+        arrived = rw (ap (λ b. b.arrived) rest) may.arrived;
+        gifts = rw (ap (λ b. b.gifts) rest) may.gifts;
+        fit = may.fit;
+        coming = rw (ap (λ b. b.coming) rest) may.coming;
+      } in
+      subst (λ o. IsSomeAnd o (λ l. MayReceive a l mid)) (sym now) still
 
   -- what was taken in at the books that a look left was taken in from those before it
   module _ (t : ℕ) (a : AnswerBatch V O R T) (lane : Lane V C D O R T) (side : D) (old mid new : Books V C D O R T) (there : slice_get old.lanes.items t ≡ Some lane)
@@ -185,7 +201,7 @@ module _ {V C D O R T : Type 0} (view : D → ClientView V O R T) where
       client = was.client;
       waits_room = was.waits_room;
       afters_room = was.afters_room;
-      names = rw same_out was.names;
+      afters = rw same_out was.afters;
       counting = rw same_out was.counting;
       window = was.window;
       out = rw same_out was.out;

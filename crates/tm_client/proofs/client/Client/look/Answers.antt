@@ -1,10 +1,8 @@
 use Rattle.std.proofs.Common.{◌≡◌, ◌≢◌, ◌<◌, ◌∙◌, length, refl, sym, subst, length-set, arith}
-use Rattle.std.specs.Prelude.{slice_get, IsSomeAnd}
-use Rattle.std.specs.declared.option.Option.TheVariants.{None, Some}
+use Rattle.std.specs.declared.option.Option.TheVariants.{None}
 use Rattle.std.proofs.lemmas.Option.{slice_get_read}
-use Rattle.tm_client.specs.Receiving.{MayReceive}
-use Rattle.tm_client.proofs.Fronts.{some_has, set_there}
-use Rattle.tm_client.proofs.Looking.{may_receive}
+use Rattle.tm_client.proofs.Fronts.{some_has}
+use Rattle.tm_client.proofs.Looking.{may_receive, looked_may_receive}
 use Rattle.tm_client.proofs.Turned.{got_keeps, got_turned, pending_keeps, pending_turned}
 use Rattle.tm_client.proofs.client.Client.look.Goals as goal
 
@@ -29,8 +27,7 @@ take_in-requires g c =
       g.met.S.FitsAnswers.fits,
       (
         let many = length-set books.lanes.items c.args.trustee looked in omega (arith, many, c.requires.trustee),
-        subst (λ o. IsSomeAnd o (λ l. MayReceive c.in-Answers.answers l _)) (sym (set_there books.lanes.items c.args.trustee looked c.requires.trustee))
-            (record { arrived = may.arrived; gifts = may.gifts; fit = may.fit; coming = may.coming }),
+        looked_may_receive c.args.trustee c.in-Answers.answers lane c.collect.new.side books _ there refl refl may,
       ),
     )
 
