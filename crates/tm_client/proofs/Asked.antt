@@ -21,7 +21,7 @@ use Rattle.tm_client.specs.Clients.{is_at, listed, come_of, entrusted_in, given,
 use Rattle.tm_client.specs.Asking.{At, IsOpen, HasRoom, MayApply, MayGrant, MayEntrust, HasAsked}
 use Rattle.tm_client.proofs.Elements.{set_cases, element_at, same_element, total_set, contained}
 use Rattle.tm_core.proofs.Tallies.{gave-append}
-use Rattle.tm_client.proofs.Accepting.{bringing-append, unanswered_more, accepting_keeps}
+use Rattle.tm_client.proofs.Accepting.{bringing-append, as_many_wait, unanswered_more, accepting_keeps}
 
 -- what is asked of a request besides: it is of a kind that is accepted, the client holds what it names, and gives nothing away by it
 pub record MayAsk {V C D O R T : Type 0} (t : ℕ) (q : Request V O R T) (more : ℕ) (books : Books V C D O R T) : Type 0 where
@@ -119,7 +119,7 @@ module _ {V C D O R T : Type 0} (view : D → ClientView V O R T) where
       let one = is.lanes t lane e in
       let all = length-append (asks_in (out_requests (view lane.side).out)) lane.waits.items in
       let counts = one.counting in
-      let afters = one.afters in
+      let afters = as_many_wait view (openings t) books.number (come_of t books.arrived.items) lane one in
       let waits_room = one.waits_room in
       let afters_room = one.afters_room in
       (omega arith, omega arith, below)

@@ -19,6 +19,7 @@ use Rattle.tm_client.specs.Asking.{At}
 use Rattle.tm_client.specs.Clients.{total, listed, come_of, entrusted_in, given, brought_in, lane_coming, lanes_coming, lanes_unanswered, lanes_counting, IsClient}
 use Rattle.tm_client.specs.Receiving.{MayReceive, HasReceived, HasTakenIn}
 use Rattle.tm_client.specs.Turns.{arrivals_of, gifts_from}
+use Rattle.tm_client.proofs.Accepting.{as_many_wait}
 use Rattle.tm_client.proofs.Elements.{set_cases, same_element, total_set, total_most}
 use Rattle.tm_client.proofs.Fronts.{set_there}
 
@@ -84,7 +85,7 @@ module _ {V C D O R T : Type 0} (view : D → ClientView V O R T) where
             let most : lanes_counting view books.lanes.items ≤ WINDOW * length books.lanes.items =
             total_most (λ lane. lane.counting) WINDOW books.lanes.items (λ u other at. (is.lanes u other at).window) in
             let own = one_of_total (λ lane. length (unanswered view lane)) books.lanes.items t lane there in
-            let names = was.afters in
+            let names = as_many_wait view (openings t) books.number (come_of t books.arrived.items) lane was in
             let capacity = is.arrived_room in
             omega (arith, counting, most, own, names, capacity);
         gifts =
@@ -201,7 +202,7 @@ module _ {V C D O R T : Type 0} (view : D → ClientView V O R T) where
       client = was.client;
       waits_room = was.waits_room;
       afters_room = was.afters_room;
-      afters = rw same_out was.afters;
+      names = rw same_out was.names;
       counting = rw same_out was.counting;
       window = was.window;
       out = rw same_out was.out;

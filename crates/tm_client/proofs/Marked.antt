@@ -21,7 +21,7 @@ module _ {V C D O R T : Type 0} (view : D → ClientView V O R T) where
     client = is.client;
     waits_room = is.waits_room;
     afters_room = is.afters_room;
-    afters = is.afters;
+    names = is.names;
     counting = is.counting;
     window = is.window;
     out = is.out;

@@ -1,5 +1,5 @@
 -- A client that published what was due stays a client.
-use Rattle.std.proofs.Common.{◌≡◌, ◌≢◌, ℕ, ◌+◌, ◌<◌, true, false, List, [], ◌∷◌, ◌++◌, length, inl, inr, refl, sym, ◌∙◌, ap, subst, arith, append_assoc, append-nil, length-append, length-set}
+use Rattle.std.proofs.Common.{◌≡◌, ◌≢◌, ℕ, ◌+◌, ◌<◌, true, false, List, [], ◌∷◌, ◌++◌, length, map, inl, inr, refl, sym, ◌∙◌, ap, subst, arith, append_assoc, append-nil, length-append, length-set}
 use Rattle.std.specs.Prelude.{slice_get}
 use Rattle.std.specs.List.{AllByRecursion}
 use Rattle.std.specs.declared.option.Option.TheVariants.{None, Some}
@@ -16,7 +16,7 @@ use Rattle.tm_pair.specs.Sides.{IsGoodClient}
 use Rattle.tm_pair.specs.Calls.{MaySend, Publishes}
 use Rattle.tm_client.specs.declared.lane.Lane.{Lane}
 use Rattle.tm_client.specs.declared.books.Books.{Books}
-use Rattle.tm_client.specs.Lanes.{asks_in, out_requests, out_room, bringing, IsAccepted, AreHeld, unanswered, IsLane}
+use Rattle.tm_client.specs.Lanes.{asks_in, out_requests, out_room, bringing, IsAccepted, AreHeld, name_of, names_of, unanswered, IsLane}
 use Rattle.tm_client.specs.Clients.{listed, come_of, entrusted_in, given, brought_in, lane_coming, lanes_coming, lanes_unanswered, lanes_counting, IsClient}
 use Rattle.tm_client.specs.Sending.{HasGone}
 use Rattle.tm_client.proofs.Elements.{set_cases, total_set}
@@ -174,7 +174,7 @@ module _ {V C D O R T : Type 0} (kind : Kind V O R T) (view : D → ClientView V
     client = was.client;
     waits_room = h.waits_room ∙ was.waits_room;
     afters_room = rw h.afters was.afters_room;
-    afters = ap (λ l. length l.items) h.afters ∙ was.afters ∙ ap length before ∙ sym (ap length went.unanswered_is);
+    names = ap (λ l. names_of l.items) h.afters ∙ was.names ∙ ap (map name_of) before ∙ sym (ap (map name_of) went.unanswered_is);
     counting =
         let counts = h.counting in
         let all = was.counting in

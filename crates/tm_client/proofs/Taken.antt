@@ -4,6 +4,7 @@ use Rattle.std.specs.Prelude.{◌-◌, drop, slice_get, vec_capacity}
 use Rattle.std.specs.List.{AllByRecursion}
 use Rattle.std.specs.declared.option.Option.TheVariants.{Some}
 use Rattle.std.proofs.lemmas.Option.{slice_get_within}
+use Rattle.tm_batch.specs.declared.message.Name.{Name}
 use Rattle.tm_batch.specs.declared.message.Answer.{Answer}
 use Rattle.tm_batch.specs.declared.message.Answer.TheVariants.{Entrusted, NotEntrusted, Replied, Launched, TicketsSpent, Granted, Gone, GiftsFull, Released, Reclaimed, Shared, ByeDone}
 use Rattle.tm_model.specs.State.{State}
@@ -46,47 +47,47 @@ listed-append t id (h ∷ xs) ys = let more = listed-append t id xs ys in omega 
 
 module _ {V O R T : Type 0} where
   -- a client's list gets what the answer brings
-  listed_by : (u id t : ℕ) (a : Answer V O R T) → listed u id (holds_by t a) ≡ entrusted u id t a
-  listed_by u id t (Entrusted n) = omega arith
-  listed_by u id t (NotEntrusted refusal v) = refl
-  listed_by u id t (Replied r) = refl
-  listed_by u id t (Launched ticket) = refl
-  listed_by u id t (TicketsSpent task) = refl
-  listed_by u id t Granted = refl
-  listed_by u id t Gone = refl
-  listed_by u id t GiftsFull = refl
-  listed_by u id t Released = refl
-  listed_by u id t (Reclaimed v) = refl
-  listed_by u id t Shared = refl
-  listed_by u id t ByeDone = refl
+  listed_by : (u id t : ℕ) (name : Name) (a : Answer V O R T) → listed u id (holds_by t name a) ≡ entrusted u id t name a
+  listed_by u id t asked (Entrusted n) = omega arith
+  listed_by u id t asked (NotEntrusted refusal v) = refl
+  listed_by u id t asked (Replied r) = refl
+  listed_by u id t asked (Launched ticket) = refl
+  listed_by u id t asked (TicketsSpent task) = refl
+  listed_by u id t asked Granted = refl
+  listed_by u id t asked Gone = refl
+  listed_by u id t asked GiftsFull = refl
+  listed_by u id t asked Released = refl
+  listed_by u id t asked (Reclaimed v) = refl
+  listed_by u id t asked Shared = omega arith
+  listed_by u id t asked ByeDone = refl
 
-  few : (t : ℕ) (a : Answer V O R T) → length (holds_by t a) ≤ brings a
-  few t (Entrusted n) = omega arith
-  few t (NotEntrusted refusal v) = omega arith
-  few t (Replied r) = omega arith
-  few t (Launched ticket) = omega arith
-  few t (TicketsSpent task) = omega arith
-  few t Granted = omega arith
-  few t Gone = omega arith
-  few t GiftsFull = omega arith
-  few t Released = omega arith
-  few t (Reclaimed v) = omega arith
-  few t Shared = omega arith
-  few t ByeDone = omega arith
+  few : (t : ℕ) (name : Name) (a : Answer V O R T) → length (holds_by t name a) ≤ brings a
+  few t asked (Entrusted n) = omega arith
+  few t asked (NotEntrusted refusal v) = omega arith
+  few t asked (Replied r) = omega arith
+  few t asked (Launched ticket) = omega arith
+  few t asked (TicketsSpent task) = omega arith
+  few t asked Granted = omega arith
+  few t asked Gone = omega arith
+  few t asked GiftsFull = omega arith
+  few t asked Released = omega arith
+  few t asked (Reclaimed v) = omega arith
+  few t asked Shared = omega arith
+  few t asked ByeDone = omega arith
 
-  all_of : (n t : ℕ) (a : Answer V O R T) → t < n → AllByRecursion (λ h. h.trustee < n) (holds_by t a)
-  all_of n t (Entrusted name) lt = (lt, tt)
-  all_of n t (NotEntrusted refusal v) lt = tt
-  all_of n t (Replied r) lt = tt
-  all_of n t (Launched ticket) lt = tt
-  all_of n t (TicketsSpent task) lt = tt
-  all_of n t Granted lt = tt
-  all_of n t Gone lt = tt
-  all_of n t GiftsFull lt = tt
-  all_of n t Released lt = tt
-  all_of n t (Reclaimed v) lt = tt
-  all_of n t Shared lt = tt
-  all_of n t ByeDone lt = tt
+  all_of : (n t : ℕ) (name : Name) (a : Answer V O R T) → t < n → AllByRecursion (λ h. h.trustee < n) (holds_by t name a)
+  all_of n t asked (Entrusted name) lt = (lt, tt)
+  all_of n t asked (NotEntrusted refusal v) lt = tt
+  all_of n t asked (Replied r) lt = tt
+  all_of n t asked (Launched ticket) lt = tt
+  all_of n t asked (TicketsSpent task) lt = tt
+  all_of n t asked Granted lt = tt
+  all_of n t asked Gone lt = tt
+  all_of n t asked GiftsFull lt = tt
+  all_of n t asked Released lt = tt
+  all_of n t asked (Reclaimed v) lt = tt
+  all_of n t asked Shared lt = (lt, tt)
+  all_of n t asked ByeDone lt = tt
 
 module _ {V C D O R T : Type 0} (view : D → ClientView V O R T) where
   -- a lane of which one answer was taken
@@ -98,7 +99,7 @@ module _ {V C D O R T : Type 0} (view : D → ClientView V O R T) where
     client = is.client;
     waits_room = rw h.waits is.waits_room;
     afters_room = rw h.afters is.afters_room;
-    afters = rw (h.side, h.waits, h.afters) is.afters;
+    names = rw (h.side, h.waits, h.afters) is.names;
     counting = rw (h.side, h.waits) (let was = is.counting in let now = h.counting in omega arith);
     window = let was = is.window in let now = h.counting in omega arith;
     out = h.out ∙ rw h.side is.out;
@@ -153,8 +154,8 @@ module _ {V C D O R T : Type 0} (view : D → ClientView V O R T) where
         ≡ listed u id old.held.items + (entrusted_in u id old.arrived.items + given u id old.gifts.items)
     moved u id =
         let all = ap (λ xs. entrusted_in u id xs) a.first in
-        let by = listed_by u id a.t a.answer in
-        let held = ap (λ xs. listed u id xs) a.held ∙ listed-append u id old.held.items (holds_by a.t a.answer) in
+        let by = listed_by u id a.t a.name a.answer in
+        let held = ap (λ xs. listed u id xs) a.held ∙ listed-append u id old.held.items (holds_by a.t a.name a.answer) in
         let gifts = ap (λ gs. given u id gs.items) a.gifts in
         omega arith
 
@@ -210,8 +211,8 @@ module _ {V C D O R T : Type 0} (view : D → ClientView V O R T) where
     most_is =
         let most = is.most in
         let now = a.coming in
-        let little = few a.t a.answer in
-        let all = ap length a.held ∙ length-append old.held.items (holds_by a.t a.answer) in
+        let little = few a.t a.name a.answer in
+        let all = ap length a.held ∙ length-append old.held.items (holds_by a.t a.name a.answer) in
         omega arith
 
     rest_arrived : AllByRecursion (λ x. (x.trustee < length old.lanes.items) × IsTakeable x.answer) new.arrived.items
@@ -222,7 +223,7 @@ module _ {V C D O R T : Type 0} (view : D → ClientView V O R T) where
       lanes = lanes_are;
       clients = λ u lt. is.clients u (subst (λ n. u < n) as_many lt) ∙ sym a.clients;
       holds = holds_are;
-      held = rw (a.held, as_many) (all-append (λ h. h.trustee < length old.lanes.items) old.held.items (holds_by a.t a.answer) is.held (all_of (length old.lanes.items) a.t a.answer within));
+      held = rw (a.held, as_many) (all-append (λ h. h.trustee < length old.lanes.items) old.held.items (holds_by a.t a.name a.answer) is.held (all_of (length old.lanes.items) a.t a.name a.answer within));
       coming = coming_is;
       most = rw a.most most_is;
       limit = rw a.most is.limit;

@@ -3,6 +3,7 @@ use Rattle.std.specs.Prelude.{◌≡◌, ℕ, ◌+◌, ◌*◌, ◌<◌, ◌≤�
 use Rattle.std.specs.List.{AllByRecursion}
 use Rattle.std.specs.declared.option.Option.TheVariants.{Some}
 use Rattle.tm_batch.specs.declared.limits.TheConstants.{WINDOW, MOST_TRUSTS}
+use Rattle.tm_batch.specs.declared.message.Name.{Name}
 use Rattle.tm_batch.specs.declared.message.Answer.{Answer}
 use Rattle.tm_batch.specs.declared.message.Answer.TheVariants.{Entrusted, NotEntrusted, Launched, TicketsSpent, Reclaimed, Shared, ByeDone}
 use Rattle.tm_model.specs.State.{State}
@@ -43,17 +44,17 @@ module _ {V O R T : Type 0} where
   brings Shared = 1
   brings _ = 0
 
-  -- how many holds on an id an answer brings
-  abbrev pub entrusted : ℕ → ℕ → ℕ → Answer V O R T → ℕ
-  entrusted t id trustee (Entrusted n) = is_at t id trustee n.id
-  entrusted t id trustee _ = 0
+  -- how many holds on an id the answer of a trustee to a request of this name brings: that of an object that was taken, or the one that
+  -- was to be given up
+  abbrev pub entrusted : ℕ → ℕ → ℕ → Name → Answer V O R T → ℕ
+  entrusted t id trustee name (Entrusted n) = is_at t id trustee n.id
+  entrusted t id trustee name Shared = is_at t id trustee name.id
+  entrusted t id trustee name _ = 0
 
-  -- an answer that waits to be taken: today none of a launch, of a reclaim, or of a Bye
+  -- an answer that waits to be taken: today none of a launch, and none of a Bye
   abbrev pub IsTakeable : Answer V O R T → Type 0
   IsTakeable (Launched ticket) = ⊥
   IsTakeable (TicketsSpent task) = ⊥
-  IsTakeable (Reclaimed v) = ⊥
-  IsTakeable Shared = ⊥
   IsTakeable ByeDone = ⊥
   IsTakeable _ = Unit {0}
 
@@ -70,7 +71,7 @@ module _ {V O R T C : Type 0} where
 
   abbrev pub entrusted_in : ℕ → ℕ → List (Arrival V C O R T) → ℕ
   entrusted_in t id [] = 0
-  entrusted_in t id (a ∷ arrived) = entrusted t id a.trustee a.answer + entrusted_in t id arrived
+  entrusted_in t id (a ∷ arrived) = entrusted t id a.trustee a.name a.answer + entrusted_in t id arrived
 
 module _ {V O R T C D : Type 0} (view : D → ClientView V O R T) where
   -- how many trusts may come by what a lane sent or lets wait: its entrusts and reclaims, and the room of the batch that is out

@@ -21,6 +21,7 @@ use Rattle.tm_pair.specs.Calls.{Publishes, IsPending, Gets}
 use Rattle.tm_pair.specs.Theory.{Theory, KeepsSides}
 use Rattle.tm_pair.specs.declared.moves.Move.TheVariants.{Publish, Collect}
 use Rattle.tm_client.specs.declared.lane.Lane.{Lane}
+use Rattle.tm_client.specs.declared.lane.Waiting.{Waiting}
 use Rattle.tm_client.specs.declared.trust.Trust.{Trust}
 use Rattle.tm_client.specs.declared.answers.Arrival.{Arrival}
 use Rattle.tm_client.specs.declared.answers.Turn.{Turn}
@@ -34,11 +35,11 @@ abbrev pub gifts_from : ℕ → ℕ → List Name → List Trust
 gifts_from t c names = map (λ n. record { trustee = t; name = n; client = c; at = 0 }) names
 
 module _ {V O R T C : Type 0} where
-  -- each of some continuations with the answer of its position
-  abbrev pub arrivals_of : ℕ → List C → List (Answer V O R T) → List (Arrival V C O R T)
+  -- each of some continuations, and the name of its request, with the answer of its position
+  abbrev pub arrivals_of : ℕ → List (Waiting C) → List (Answer V O R T) → List (Arrival V C O R T)
   arrivals_of t [] answers = []
-  arrivals_of t (c ∷ cs) [] = []
-  arrivals_of t (c ∷ cs) (a ∷ answers) = record { trustee = t; after = c; answer = a } ∷ arrivals_of t cs answers
+  arrivals_of t (w ∷ waiting) [] = []
+  arrivals_of t (w ∷ waiting) (a ∷ answers) = record { trustee = t; name = w.name; after = w.after; answer = a } ∷ arrivals_of t waiting answers
 
 module _ {V O R T C D Table Owner : Type 0} (theory : Theory V O R T Table D Owner) where
   -- a turn at trustee t changed one lane, and of the rest what it says

@@ -26,7 +26,7 @@ mod turning;
 pub use answers::{Arrival, Got, Refused, Turn, Why};
 pub use books::Books;
 pub use client::Client;
-pub use lane::Lane;
+pub use lane::{Lane, Waiting};
 pub use laws::{
     answers_are_of_entries, byes_may_go, collects_bring, held_is_live, rest_is_held, waits_may_go,
 };

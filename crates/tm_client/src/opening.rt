@@ -32,7 +32,6 @@ fn new_lane<S: FitsBatches, C: Drop, D: Drop>(
         fetching: false,
         closing: false,
         said: false,
-        closed: false,
     })
 }
 

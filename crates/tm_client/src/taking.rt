@@ -31,19 +31,20 @@ fn hold(held: &mut Vec<Hold>, client: u32, trustee: u32, name: Name) -> Trust
     }
 }
 
-/// What is handed out for an answer. A trust that it brings is put into the client's list, and fewer may come then.
+/// What is handed out for the answer to a request that had this name. A trust that it brings is put into the client's list, and fewer may come then.
 fn got_of<S: FitsBatches>(
     held: &mut Vec<Hold>,
     coming: &mut u32,
     client: u32,
     trustee: u32,
+    asked: Name,
     answer: Answer<S>,
 ) -> Got<S>
     requires takeable { IsTakeable answer }
     requires coming { brings answer ≤ coming.old }
     requires room { length held.old.items + brings answer ≤ vec_capacity held.old }
-    ensures got { IsGot trustee client (length held.old.items) answer result }
-    ensures held { held.new.items ≡ held.old.items ++ holds_by trustee answer }
+    ensures got { IsGot trustee client (length held.old.items) asked answer result }
+    ensures held { held.new.items ≡ held.old.items ++ holds_by trustee asked answer }
     ensures capacity { vec_capacity held.new ≡ vec_capacity held.old }
     ensures coming { coming.old ≡ coming.new + brings answer }
 {
@@ -61,11 +62,15 @@ fn got_of<S: FitsBatches>(
         Answer::Gone => Got::Gone,
         Answer::GiftsFull => Got::GiftsFull,
         Answer::Released => Got::Released,
-        Answer::Launched(_)
-        | Answer::TicketsSpent(_)
-        | Answer::Reclaimed(_)
-        | Answer::Shared
-        | Answer::ByeDone => unreachable!(),
+        Answer::Reclaimed(value) => {
+            *coming -= 1;
+            Got::Reclaimed(value)
+        }
+        Answer::Shared => {
+            *coming -= 1;
+            Got::Shared(hold(held, client, trustee, asked))
+        }
+        Answer::Launched(_) | Answer::TicketsSpent(_) | Answer::ByeDone => unreachable!(),
     }
 }
 
@@ -86,6 +91,7 @@ impl<S: FitsBatches, C: Drop, P: PairTable<S>> Client<S, C, P> {
             &mut books.coming,
             books.number,
             arrival.trustee,
+            arrival.name,
             arrival.answer,
         );
         Some((arrival.after, got))

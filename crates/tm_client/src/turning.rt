@@ -7,17 +7,18 @@ ghost use Rattle.tm_client.specs.Turns.{arrivals_of, gifts_from};
 
 use crate::answers::Arrival;
 use crate::books::Books;
+use crate::lane::Waiting;
 use crate::trust::Trust;
 use arrayvec::ArrayVec;
 use circular_buffer::HeapCircularBuffer;
-use tm_batch::{Answer, AnswerBatch, MOST_REQUESTS, Name};
+use tm_batch::{Answer, AnswerBatch, Name};
 use tm_pair::FitsBatches;
 
-/// Lets the first of some continuations, if there is one, arrive with an answer.
+/// Lets the first of what waits for answers, if there is one, arrive with an answer.
 fn arrive_first<S: FitsBatches, C: Drop>(
     trustee: u32,
     answer: Answer<S>,
-    afters: &mut HeapCircularBuffer<C>,
+    afters: &mut HeapCircularBuffer<Waiting<C>>,
     arrived: &mut HeapCircularBuffer<Arrival<S, C>>,
 )
     requires room { length arrived.old.items + min 1 (length afters.old.items) ≤ arrived.old.capacity }
@@ -26,20 +27,21 @@ fn arrive_first<S: FitsBatches, C: Drop>(
     ensures afters { afters.new.items ≡ drop 1 afters.old.items }
     ensures afters_room { afters.new.capacity ≡ afters.old.capacity }
 {
-    if let Some(after) = afters.pop_front() {
+    if let Some(waiting) = afters.pop_front() {
         let _ = arrived.try_push_back(Arrival {
             trustee,
-            after,
+            name: waiting.name,
+            after: waiting.after,
             answer,
         });
     }
 }
 
-/// Lets each of some continuations arrive with the answer of its position, of which none is left then.
+/// Lets each of what waits for answers arrive with the answer of its position, of which none is left then.
 pub(crate) fn arrive<S: FitsBatches, C: Drop>(
     trustee: u32,
     batch: &mut AnswerBatch<S>,
-    afters: &mut HeapCircularBuffer<C>,
+    afters: &mut HeapCircularBuffer<Waiting<C>>,
     arrived: &mut HeapCircularBuffer<Arrival<S, C>>,
 )
     requires room { length arrived.old.items + min (length batch.old.answers.items) (length afters.old.items) ≤ arrived.old.capacity }

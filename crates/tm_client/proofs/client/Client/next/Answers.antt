@@ -25,6 +25,7 @@ returns-clause-next g c =
     c.index_mut.ensures.value in
     record {
       answer = c.in-Some.arrival.answer;
+      name = c.in-Some.arrival.name;
       t = c.in-Some.arrival.trustee;
       lane = c.index_mut.result.now;
       becomes = _;
@@ -62,6 +63,7 @@ returns-clause-client g c = λ openings is.
     c.index_mut.ensures.value in
     taken.taking_keeps g.P.PairTable.theory.client_view openings c.in-Some.arrival.after c.got_of-got.result c.args.self.now.books _ is (record {
       answer = c.in-Some.arrival.answer;
+      name = c.in-Some.arrival.name;
       t = c.in-Some.arrival.trustee;
       lane = c.index_mut.result.now;
       becomes = _;
