@@ -1,6 +1,7 @@
 pub mod Accepting
 pub mod Arriving
 pub mod Asked
+pub mod Beginning
 pub mod Bringing
 pub mod Elements
 pub mod Fronts

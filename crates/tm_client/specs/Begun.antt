@@ -1,22 +1,36 @@
 -- How a client begins.
-use Rattle.std.specs.Prelude.{◌≡◌, ℕ, ◌+◌, ◌<◌, ◌≤◌, false, List, [], ◌∷◌, length}
-use Rattle.std.specs.List.{AllByRecursion, AllZip}
+use Rattle.std.specs.Prelude.{◌≡◌, ℕ, ◌+◌, ◌*◌, ◌<◌, ◌≤◌, false, List, [], ◌∷◌, length, map, vec_capacity}
+use Rattle.std.specs.List.{AllByRecursion}
+use Rattle.circular_buffer.specs.Buffer.{buffer}
+use Rattle.tm_batch.specs.declared.limits.TheConstants.{WINDOW}
 use Rattle.tm_batch.specs.declared.config.Config.{Config}
 use Rattle.tm_batch.specs.declared.config.First.{First}
 use Rattle.tm_batch.specs.declared.message.Name.{Name}
 use Rattle.tm_model.specs.State.{State, holds_at}
 use Rattle.tm_model.specs.Opening.{IsBuildable, opening_of}
+use Rattle.tm_pair.specs.Views.{ClientView}
 use Rattle.tm_client.specs.declared.lane.Lane.{Lane}
+use Rattle.tm_client.specs.declared.trust.Hold.{Hold}
 use Rattle.tm_client.specs.declared.trust.Trust.{Trust}
 use Rattle.tm_client.specs.declared.books.Books.{Books}
-use Rattle.tm_pair.specs.Views.{ClientView}
 use Rattle.tm_client.specs.Asking.{IsHeldBy}
 use Rattle.tm_client.specs.Clients.{is_at, IsClient}
+use Rattle.tm_client.specs.Taking.{hold_of}
 
 -- how often some names, by the numbers of their trustees, have an id of trustee t
 abbrev pub named_at : ℕ → ℕ → List (ℕ × Name) → ℕ
 named_at t id [] = 0
 named_at t id (h ∷ held) = is_at t id h.0 h.1.id + named_at t id held
+
+-- what a client's list of trusts says of them
+abbrev pub holds_in : List (ℕ × Name) → List Hold
+holds_in held = map (λ h. hold_of h.0 h.1) held
+
+-- the trust of one of them, of client c
+pub record IsTrustOf (c : ℕ) (held : ℕ × Name) (trust : Trust) : Type 0 where
+  pub trustee : trust.trustee ≡ held.0
+  pub name : trust.name ≡ held.1
+  pub client : trust.client ≡ c
 
 module _ (V O R T : Type 0) where
   -- the parts of client `number` at first, by a config and the whole list of the build: so many sides, one for each trustee, and names
@@ -40,29 +54,35 @@ module _ {V O R T : Type 0} where
   AreOpenings config whole openings = (t : ℕ) → t < config.trustees → openings t ≡ opening_of t config whole
 
 module _ {V C D O R T : Type 0} where
-  -- a lane at first: nothing was accepted, nothing waits, and neither `fetch` nor `close` was called
-  pub record IsNewLane (side : D) (lane : Lane V C D O R T) : Type 0 where
-    pub side_of : lane.side ≡ side
-    pub waits : lane.waits.items ≡ []
-    pub afters : lane.afters.items ≡ []
-    pub counting : lane.counting ≡ 0
-    pub fetching : lane.fetching ≡ false
-    pub closing : lane.closing ≡ false
+  -- what is kept for a trustee at first: nothing was accepted, nothing waits or is out, and neither `fetch` nor `close` was called
+  abbrev pub new_lane : D → Lane V C D O R T
+  new_lane side = record {
+    side = side;
+    waits = buffer [] WINDOW;
+    afters = buffer [] WINDOW;
+    out = false;
+    room = 0;
+    counting = 0;
+    fetching = false;
+    closing = false;
+    said = false;
+  }
 
-  -- client `number` at first, with these sides
-  pub record HasBegun (number : ℕ) (config : Config) (sides : List D) (books : Books V C D O R T) : Type 0 where
+  -- client `number` at first, with these sides, which holds what these names say: nothing has come, and all room is reserved
+  pub record HasBegun (number : ℕ) (config : Config) (sides : List D) (held : List (ℕ × Name)) (books : Books V C D O R T) : Type 0 where
     pub number_of : books.number ≡ number
     pub clients : books.clients ≡ config.clients
     pub most : books.most ≡ config.trusts
-    pub lanes : AllZip IsNewLane sides books.lanes.items
-    pub arrived : books.arrived.items ≡ []
-    pub gifts : books.gifts.items ≡ []
+    pub lanes : books.lanes.items ≡ map new_lane sides
+    pub holds : books.held.items ≡ holds_in held
+    pub holds_room : config.trusts ≤ vec_capacity books.held
+    pub arrived : books.arrived ≡ buffer [] (WINDOW * length sides)
+    pub gifts : books.gifts ≡ buffer [] config.trusts
     pub coming : books.coming ≡ 0
 
-  -- the trust of a name of what a client holds at first
+  -- the trust of one of the names of what a client holds at first, which it holds
   pub record IsFirstTrust (books : Books V C D O R T) (held : ℕ × Name) (trust : Trust) : Type 0 where
-    pub trustee : trust.trustee ≡ held.0
-    pub name : trust.name ≡ held.1
+    pub names : IsTrustOf books.number held trust
     pub listed : IsHeldBy books trust
 
   -- whatever the list of the build, it is a client at the states in which the trustees open

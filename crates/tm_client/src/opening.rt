@@ -1,24 +1,25 @@
 //! How a client begins.
-ghost use Rattle.std.specs.Prelude.{◌≡◌, length, IfOk};
+ghost use Rattle.std.specs.Prelude.{◌≡◌, ◌+◌, ◌≤◌, ◌++◌, length, map, IfOk, OnOk, vec_capacity};
 ghost use Rattle.std.specs.List.{AllByRecursion, AllZip};
 ghost use Rattle.tm_pair.specs.Views.{new_client};
-ghost use Rattle.tm_client.specs.Begun.{HasBegun, IsBeginnable, IsFirstClient, IsFirstTrust, IsNewLane};
+ghost use Rattle.tm_client.specs.Begun.{HasBegun, IsBeginnable, IsFirstClient, IsFirstTrust, IsTrustOf, holds_in, new_lane};
 
 use crate::books::Books;
 use crate::client::Client;
 use crate::lane::Lane;
+use crate::taking::hold;
 use crate::trust::{Hold, Trust};
 use circular_buffer::HeapCircularBuffer;
 use std::alloc::{AllocError, Global};
 use tm_batch::{Config, Name, WINDOW};
 use tm_pair::{FitsBatches, PairTable};
 
-/// A lane at first, with room for a window of requests and continuations.
-fn new_lane<S: FitsBatches, C: Drop, D: Drop>(
+/// What is kept for the trustee of a side at first, with room for a window of requests.
+fn lane_of<S: FitsBatches, C: Drop, D: Drop>(
     alloc: Global,
     side: D,
 ) -> Result<Lane<S, C, D>, AllocError>
-    ensures { IfOk result (λ lane. IsNewLane side lane) }
+    ensures { IfOk result (λ lane. lane ≡ new_lane side) }
 {
     let waits = HeapCircularBuffer::with_capacity(alloc, WINDOW)?;
     let afters = HeapCircularBuffer::with_capacity(alloc, WINDOW)?;
@@ -35,32 +36,36 @@ fn new_lane<S: FitsBatches, C: Drop, D: Drop>(
     })
 }
 
-/// The lanes of some sides at first.
-fn new_lanes<S: FitsBatches, C: Drop, D: Drop>(
+/// What is kept for each trustee at first.
+fn lanes_of<S: FitsBatches, C: Drop, D: Drop>(
     alloc: Global,
     sides: Vec<D>,
 ) -> Result<Vec<Lane<S, C, D>>, AllocError>
-    ensures { IfOk result (λ lanes. AllZip IsNewLane sides.items lanes.items) }
+    ensures { IfOk result (λ lanes. lanes.items ≡ map new_lane sides.items) }
 {
     let mut lanes = Vec::new(alloc);
     for side in sides {
-        let lane = new_lane(alloc, side)?;
-        lanes.push(lane)?;
+        lanes.push(lane_of(alloc, side)?)?;
     }
     Ok(lanes)
 }
 
-/// The trusts of a client at first.
-fn first_trusts(alloc: Global, client: u32, held: &[(u32, Name)]) -> Result<Vec<Trust>, AllocError> {
+/// The trusts of what a client holds at first, each of which is put into its list.
+fn first_trusts(
+    alloc: Global,
+    client: u32,
+    held: &[(u32, Name)],
+    list: &mut Vec<Hold>,
+) -> Result<Vec<Trust>, AllocError>
+    requires room { length list.old.items + length held.now ≤ vec_capacity list.old }
+    ensures trusts { IfOk result (λ trusts. AllZip (IsTrustOf client) held.now trusts.items) }
+    ensures listed { OnOk result (list.new.items ≡ list.old.items ++ holds_in held.now) }
+    ensures capacity { OnOk result (vec_capacity list.new ≡ vec_capacity list.old) }
+{
     let mut trusts = Vec::new(alloc);
-    for &(trustee, name) in held {
-        let at = trusts.len();
-        trusts.push(Trust {
-            trustee,
-            name,
-            client,
-            at,
-        })?;
+    for named in held {
+        let (trustee, name) = *named;
+        trusts.push(hold(list, client, trustee, name))?;
     }
     Ok(trusts)
 }
@@ -80,17 +85,15 @@ impl<S: FitsBatches, C: Drop, P: PairTable<S>> Client<S, C, P> {
     ) -> Result<(Client<S, C, P>, Vec<Trust>), AllocError>
         requires begins { IsBeginnable S S.Op S.Reply S.Task number config (length sides.items) held.items }
         requires sides { AllByRecursion (λ side. P.theory.client_view side ≡ new_client number) sides.items }
-        ensures begun { IfOk result (λ r. HasBegun number config sides.items r.0.books) }
+        ensures begun { IfOk result (λ r. HasBegun number config sides.items held.items r.0.books) }
         ensures trusts { IfOk result (λ r. AllZip (IsFirstTrust r.0.books) held.items r.1.items) }
         ensures client { IfOk result (λ r. IsFirstClient P.theory.client_view number config (length sides.items) held.items r.0.books) }
     {
-        let trusts = first_trusts(alloc, number, held.as_slice())?;
-        let count = sides.len();
-        let lanes = new_lanes(alloc, sides)?;
-        let arrived = HeapCircularBuffer::with_capacity(alloc, WINDOW * count)?;
+        let mut list = Vec::with_capacity(alloc, config.trusts as usize)?;
+        let trusts = first_trusts(alloc, number, held.as_slice(), &mut list)?;
+        let arrived = HeapCircularBuffer::with_capacity(alloc, WINDOW * sides.len())?;
         let gifts = HeapCircularBuffer::with_capacity(alloc, config.trusts as usize)?;
-        let mut list: Vec<Hold> = Vec::new(alloc);
-        list.reserve(config.trusts as usize)?;
+        let lanes = lanes_of(alloc, sides)?;
         let books = Books {
             number,
             clients: config.clients,

@@ -12,7 +12,7 @@ use tm_batch::{Answer, Name};
 use tm_pair::{FitsBatches, PairTable};
 
 /// Puts a trust of trustee `trustee` into a client's list.
-fn hold(held: &mut Vec<Hold>, client: u32, trustee: u32, name: Name) -> Trust
+pub(crate) fn hold(held: &mut Vec<Hold>, client: u32, trustee: u32, name: Name) -> Trust
     requires room { length held.old.items < vec_capacity held.old }
     ensures held { held.new.items ≡ held.old.items ++ hold_of trustee name ∷ [] }
     ensures capacity { vec_capacity held.new ≡ vec_capacity held.old }

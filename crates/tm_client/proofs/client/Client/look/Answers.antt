@@ -27,7 +27,7 @@ take_in-requires g c =
       g.met.S.FitsAnswers.fits,
       (
         let many = length-set books.lanes.items c.args.trustee looked in omega (arith, many, c.requires.trustee),
-        looked_may_receive c.args.trustee c.in-Answers.answers lane c.collect.new.side books _ there refl refl may,
+        looked_may_receive theory.client_view c.args.trustee c.in-Answers.answers lane c.collect.new.side books _ there refl refl may,
       ),
     )
 
