@@ -1,9 +1,9 @@
 -- A client at first.
-use Rattle.std.proofs.Common.{◌≡◌, ◌≢◌, ℕ, zero, suc, ◌+◌, ◌*◌, ◌<◌, ◌≤◌, false, List, [], ◌∷◌, ◌++◌, length, map, refl, sym, ◌∙◌, ap, subst, arith, append_assoc}
-use Rattle.std.specs.Prelude.{slice_get}
+use Rattle.std.proofs.Common.{◌≡◌, ◌≢◌, ℕ, zero, suc, ◌+◌, ◌*◌, ◌<◌, ◌≤◌, false, List, [], ◌∷◌, ◌++◌, length, map, take, refl, sym, ◌∙◌, ap, subst, arith, append_assoc, append-nil}
+use Rattle.std.specs.Prelude.{slice_get, slice_index_or}
 use Rattle.std.specs.List.{AllByRecursion, AllZip, Contains}
 use Rattle.std.specs.declared.option.Option.TheVariants.{Some}
-use Rattle.std.proofs.lemmas.List.{length-map}
+use Rattle.std.proofs.lemmas.List.{length-map, map-append, take_more}
 use Rattle.std.proofs.lemmas.List.Elements.{Contains-append_right}
 use Rattle.std.proofs.lemmas.Option.{slice_get_within}
 use Rattle.tm_batch.specs.declared.limits.TheConstants.{WINDOW}
@@ -21,6 +21,7 @@ use Rattle.tm_client.specs.declared.trust.Trust.{Trust}
 use Rattle.tm_client.specs.declared.books.Books.{Books}
 use Rattle.tm_client.specs.Lanes.{unanswered, AreHeld, IsLane}
 use Rattle.tm_client.specs.Clients.{total, listed, come_of, entrusted_in, given, brought_in, lane_coming, lanes_coming, lanes_unanswered, lanes_counting, IsClient}
+use Rattle.tm_client.proofs.Receiving.{none_left}
 use Rattle.tm_client.specs.Begun.{named_at, holds_in, new_lane, IsTrustOf, IsFirstTrust, MayBegin, AreOpenings, HasBegun, IsFirstClient}
 
 -- the lists of what is held say as often as the names what they have
@@ -33,11 +34,43 @@ holds_below n [] all = tt
 holds_below n (h ∷ held) all = (all.0, holds_below n held all.1)
 
 -- one pair more behind others
-pub zip_more : {X Y : Type 0} (R : X → Y → Type 0) (xs : List X) (ys : List Y) (x : X) (y : Y) → AllZip R xs ys → R x y → AllZip R (xs ++ x ∷ []) (ys ++ y ∷ [])
+zip_more : {X Y : Type 0} (R : X → Y → Type 0) (xs : List X) (ys : List Y) (x : X) (y : Y) → AllZip R xs ys → R x y → AllZip R (xs ++ x ∷ []) (ys ++ y ∷ [])
 zip_more R [] [] x y all one = (one, tt)
 zip_more R [] (z ∷ ys) x y all one = absurd all
 zip_more R (z ∷ xs) [] x y all one = absurd all
 zip_more R (z ∷ xs) (w ∷ ys) x y all one = (all.0, zip_more R xs ys x y all.1 one)
+
+-- one trust more of what is held
+pub trusts_more :
+    (c i : ℕ) (held : List (ℕ × Name)) (d : ℕ × Name) (trusts next : List Trust) (trust : Trust) → i < length held → next ≡ trusts ++ trust ∷ []
+    → IsTrustOf c (slice_index_or held i d) trust → AllZip (IsTrustOf c) (take i held) trusts → AllZip (IsTrustOf c) (take (i + 1) held) next
+trusts_more c i held d trusts next trust lt more is before =
+    rw (more, take_more held i d lt) (zip_more (IsTrustOf c) (take i held) trusts (slice_index_or held i d) trust before is)
+
+-- and one hold more of the list
+pub holds_more :
+    (i : ℕ) (held : List (ℕ × Name)) (d : ℕ × Name) (list was next : List Hold) → i < length held
+    → next ≡ was ++ (record { trustee = (slice_index_or held i d).0; id = (slice_index_or held i d).1.id }) ∷ []
+    → was ≡ list ++ holds_in (take i held) → next ≡ list ++ holds_in (take (i + 1) held)
+holds_more i held d list was next lt more before =
+    let x = slice_index_or held i d in
+    let one : List Hold = (record { trustee = x.0; id = x.1.id }) ∷ [] in
+    more ∙ ap (λ l. l ++ one) before ∙ append_assoc list (holds_in (take i held)) one
+    ∙ ap (λ l. list ++ l) (sym (map-append (λ h. record { trustee = h.0; id = h.1.id }) (take i held) (x ∷ [])))
+    ∙ ap (λ l. list ++ holds_in l) (sym (take_more held i d lt))
+
+module _ {V C D O R T : Type 0} where
+  -- one lane more at first
+  pub lanes_more : (lanes next : List (Lane V C D O R T)) (sides : List D) (side : D) (lane : Lane V C D O R T)
+      → next ≡ lanes ++ lane ∷ [] → lane ≡ new_lane side → lanes ≡ map new_lane sides → next ≡ map new_lane (sides ++ side ∷ [])
+  lanes_more lanes next sides side lane more new before =
+      more ∙ ap (λ l. l ++ lane ∷ []) before ∙ ap (λ x. map new_lane sides ++ x ∷ []) new ∙ sym (map-append new_lane sides (side ∷ []))
+
+  -- all lanes at first
+  pub lanes_all : (lanes : List (Lane V C D O R T)) (yielded rest sides : List D) → length rest ≡ 0 → yielded ++ rest ≡ sides
+      → lanes ≡ map new_lane yielded → lanes ≡ map new_lane sides
+  lanes_all lanes yielded rest sides none all are =
+      are ∙ ap (map new_lane) (sym (append-nil yielded) ∙ ap (λ l. yielded ++ l) (sym (none_left rest none)) ∙ all)
 
 module _ {V O R T : Type 0} where
   -- no request waits among none
@@ -79,6 +112,7 @@ module _ {V C D O R T : Type 0} (view : D → ClientView V O R T) (number : ℕ)
   lane_of (side ∷ sides) (suc t) lane all e =
       let (other, is, new, lt) = lane_of sides t lane all.1 e in (other, is, new, omega (arith, lt))
 
+module _ {V D O R T : Type 0} (C : Type 0) (view : D → ClientView V O R T) (number : ℕ) where
   -- nothing comes by any of them, nothing is unanswered and nothing counts
   none_coming : (sides : List D) → AllByRecursion (λ side. view side ≡ new_client number) sides → lanes_coming {C = C} view (map new_lane sides) ≡ 0
   none_coming [] all = refl
@@ -98,6 +132,7 @@ module _ {V C D O R T : Type 0} (view : D → ClientView V O R T) (number : ℕ)
   none_counting [] = refl
   none_counting (side ∷ sides) = let rest = none_counting sides in omega (arith, rest)
 
+module _ {V D O R T : Type 0} (view : D → ClientView V O R T) (number : ℕ) where
   -- it gave nothing away, and what came to it is what the opening gave it
   first_gave : (side : D) (id : ℕ) → view side ≡ new_client number → gave id ((view side).sent ++ []) ≡ 0
   first_gave side id e = rw e refl
@@ -155,7 +190,7 @@ module _ {V C D O R T : Type 0} (view : D → ClientView V O R T) (number : ℕ)
       holds = holds_are;
       held = rw (begun.holds, as_many, may.sides_of) (holds_below config.trustees held may.trustees);
       coming =
-          rw (begun.coming, begun.lanes, nothing_arrived, no_gifts) (let none = none_coming {C = C} view number sides new in omega (arith, none));
+          rw (begun.coming, begun.lanes, nothing_arrived, no_gifts) (let none = none_coming C view number sides new in omega (arith, none));
       most =
           let few = may.most in
           let many = ap length begun.holds ∙ length-map held (λ h. record { trustee = h.0; id = h.1.id }) in
@@ -169,8 +204,8 @@ module _ {V C D O R T : Type 0} (view : D → ClientView V O R T) (number : ℕ)
       gifts_room = let room = ap (λ b. b.capacity) begun.gifts in let most = begun.most in omega (arith, room, most);
       counting =
           rw (begun.lanes, nothing_arrived) (
-          let none = none_unanswered {C = C} view number sides new in
-          let zero = none_counting {C = C} view number sides in
+          let none = none_unanswered C view number sides new in
+          let zero = none_counting C view number sides in
           omega (arith, none, zero)
           );
       arrived_room = ap (λ b. b.capacity) begun.arrived ∙ ap (λ n. WINDOW * n) (sym as_many);
