@@ -2,6 +2,7 @@ pub mod Accepting
 pub mod Allowed
 pub mod Arriving
 pub mod Asked
+pub mod Beginning
 pub mod Bringing
 pub mod Elements
 pub mod Fronts
@@ -10,9 +11,11 @@ pub mod Going
 pub mod Leaving
 pub mod Listed
 pub mod Living
+pub mod Looking
 pub mod Marked
 pub mod Moving
 pub mod Receiving
 pub mod Seeing
 pub mod Sending
 pub mod Taken
+pub mod Turned

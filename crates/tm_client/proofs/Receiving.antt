@@ -26,7 +26,7 @@ use Rattle.tm_client.proofs.Accepting.{bringing-append, as_many_wait}
 use Rattle.tm_client.proofs.Moving.{nothing_left}
 use Rattle.tm_client.proofs.Arriving.{Arrives, arrives, none_arrives, asks_bring, no_bye_asks, bye_behind, given-append, given_here, given_elsewhere, gifts_all, gifts_many, come_of-append, brought_in-append, entrusted_in-append}
 
-none_left : {X : Type 0} (xs : List X) → length xs ≡ 0 → xs ≡ []
+pub none_left : {X : Type 0} (xs : List X) → length xs ≡ 0 → xs ≡ []
 none_left [] e = refl
 none_left (x ∷ xs) e = absurd (omega (arith, e))
 

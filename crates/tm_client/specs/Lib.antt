@@ -1,4 +1,5 @@
 pub mod Asking
+pub mod Begun
 pub mod Clients
 pub mod Due
 pub mod Lanes

@@ -13,11 +13,12 @@ use Rattle.tm_batch.specs.declared.message.AnswerBatch.{AnswerBatch}
 use Rattle.tm_model.specs.State.{State, IsHeld}
 use Rattle.tm_model.specs.Serve.{state_after}
 use Rattle.tm_model.specs.Legal.{IsLegal}
+use Rattle.tm_model.specs.Lists.{IsPrefix}
 use Rattle.tm_model.specs.Ran.{ran, answered}
 use Rattle.tm_model.specs.Holds.{has_bye, answers_in}
 use Rattle.tm_model.specs.Fits.{Fits}
 use Rattle.tm_pair.specs.Calls.{Publishes, IsPending, Gets}
-use Rattle.tm_pair.specs.Theory.{Theory}
+use Rattle.tm_pair.specs.Theory.{Theory, KeepsSides}
 use Rattle.tm_pair.specs.declared.moves.Move.TheVariants.{Publish, Collect}
 use Rattle.tm_client.specs.declared.lane.Lane.{Lane}
 use Rattle.tm_client.specs.declared.lane.Waiting.{Waiting}
@@ -72,13 +73,9 @@ module _ {V O R T C D Table Owner : Type 0} (theory : Theory V O R T Table D Own
   pub record HasLooked (was now : Table) (lane becomes : Lane V C D O R T) (old new : Books V C D O R T) : Type 0 where
     pub pending : IsPending (theory.client_view lane.side) (theory.client_view becomes.side)
     pub did : theory.Did (Collect (theory.client_view lane.side).place None) was now
-    pub arrived : new.arrived ≡ old.arrived
-    pub gifts : new.gifts ≡ old.gifts
-    pub waits : becomes.waits ≡ lane.waits
-    pub afters : becomes.afters ≡ lane.afters
-    pub counting : becomes.counting ≡ lane.counting
-    pub fetching : becomes.fetching ≡ lane.fetching
-    pub said : becomes.said ≡ lane.said
+    -- but for its side the lane stays, and but for its lanes the client
+    pub stays : becomes ≡ record lane { side = becomes.side }
+    pub rest : new ≡ record old { lanes = new.lanes }
 
   -- the trusts that a client may have beside those that it has and those that may come
   abbrev pub free_trusts : Books V C D O R T → ℕ
@@ -146,4 +143,8 @@ module _ {V O R T C D Table Owner : Type 0} (theory : Theory V O R T Table D Own
     pub becomes : Lane V C D O R T
     pub turns : Turns t lane becomes old new
     pub tells : Tells kind t answer was now lane becomes old new
+    -- the table keeps its other sides, and the lane's side stays one of its
+    pub keeps : KeepsSides theory was now lane.side becomes.side
+    -- the log that the side has seen begins with what it had seen before
+    pub extends : IsPrefix (theory.client_view lane.side).seen (theory.client_view becomes.side).seen
     pub sees : Sees kind (theory.opening was) t becomes new

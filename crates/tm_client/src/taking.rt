@@ -14,7 +14,7 @@ use tm_batch::{Answer, Name};
 use tm_pair::{FitsBatches, PairTable};
 
 /// Puts a trust of trustee `trustee` into a client's list.
-fn hold(held: &mut Holds, client: u32, trustee: u32, name: Name) -> Trust
+pub(crate) fn hold(held: &mut Holds, client: u32, trustee: u32, name: Name) -> Trust
     requires room { held_count held.old < room_for held.old }
     ensures { IsListed trustee client name result held.old held.new }
 {

@@ -9,6 +9,7 @@ use Rattle.tm_client.specs.Lanes.{IsLane}
 use Rattle.tm_client.specs.Clients.{come_of}
 use Rattle.tm_client.proofs.Fronts.{some_has, set_there, set_same}
 use Rattle.tm_client.proofs.Leaving.{left_goes, left_is_due, nothing_is_due}
+use Rattle.tm_client.proofs.Looking.{same_extends}
 use Rattle.tm_client.proofs.Seeing.{sees_at}
 use Rattle.tm_client.proofs.Sending.{sending_keeps}
 use Rattle.tm_client.proofs.client.Client.send.Goals as goal
@@ -111,6 +112,8 @@ returns-clause-turned g c =
         counting = posts.counting;
         fetching = posts.fetching;
       };
+      keeps = posts.keeps;
+      extends = same_extends (theory.client_view lane.side) (theory.client_view becomes.side) posts.publishes.seen;
       sees =
           sees_at theory g.S.Entrusted.kind openings c.args.trustee becomes _ (returns-clause-client g c openings same is)
           (set_there books.lanes.items c.args.trustee becomes c.requires.trustee) good (theory.opening c.args.table.now) same;
@@ -134,5 +137,13 @@ returns-then-is_idle-clause-turned g c =
       becomes = lane;
       turns = record { of_lane = there; lanes = sym (set_same books.lanes.items c.args.trustee lane there); closing = refl; number = refl; clients = refl; most = refl; held = refl };
       tells = record { free = free; waits = due.0; no_bye = due.1; no_fetch = due.2; kept = refl; table = refl };
+      keeps = record {
+        same = g.met.P.PairTable.laws.same_refl c.args.table.now;
+        opening = refl;
+        mine = mine;
+        clients = λ other ne has. has;
+        trustee = λ other has. has;
+      };
+      extends = same_extends (theory.client_view lane.side) (theory.client_view lane.side) refl;
       sees = sees_at theory g.S.Entrusted.kind openings c.args.trustee lane books is there good (theory.opening c.args.table.now) same;
     }
