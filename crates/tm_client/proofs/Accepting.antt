@@ -1,5 +1,6 @@
 -- A lane that accepts a request.
-use Rattle.std.proofs.Common.{◌≡◌, ℕ, ◌+◌, ◌<◌, true, false, List, [], ◌∷◌, ◌++◌, length, inl, inr, sym, ◌∙◌, ap, subst, arith, append_assoc, length-append}
+use Rattle.std.proofs.Common.{◌≡◌, ℕ, ◌+◌, ◌<◌, true, false, List, [], ◌∷◌, ◌++◌, length, map, inl, inr, sym, ◌∙◌, ap, subst, arith, append_assoc, length-append}
+use Rattle.std.proofs.lemmas.List.{map-append, length-map}
 use Rattle.tm_batch.specs.declared.limits.TheConstants.{WINDOW}
 use Rattle.tm_batch.specs.declared.message.Request.{Request}
 use Rattle.tm_batch.specs.declared.message.Request.TheVariants.{Entrust, Apply, Launch, Grant, Release, Reclaim, Bye}
@@ -9,7 +10,7 @@ use Rattle.tm_model.specs.Orderly.{GrantsBelow}
 use Rattle.tm_core.proofs.CallerLemmas.{all-append}
 use Rattle.tm_pair.specs.Views.{ClientView}
 use Rattle.tm_client.specs.declared.lane.Lane.{Lane}
-use Rattle.tm_client.specs.Lanes.{asks_in, out_requests, bringing, IsAccepted, HasAccepted, AreHeld, unanswered, IsLane}
+use Rattle.tm_client.specs.Lanes.{asks_in, out_requests, bringing, IsAccepted, HasAccepted, AreHeld, name_of, names_of, unanswered, IsLane}
 use Rattle.tm_client.proofs.Elements.{last_split}
 
 -- so many and one more
@@ -39,6 +40,12 @@ module _ {V O R T : Type 0} where
   ]
 
 module _ {V C D O R T : Type 0} (view : D → ClientView V O R T) where
+  -- there is a continuation for each request whose answer did not come
+  pub as_many_wait :
+      (opening : State V O R T) (c n : ℕ) (lane : Lane V C D O R T) → IsLane view opening c n lane → length lane.afters.items ≡ length (unanswered view lane)
+  as_many_wait opening c n lane is =
+      sym (length-map lane.afters.items (λ w. w.name)) ∙ ap length is.names ∙ length-map (unanswered view lane) name_of
+
   -- one request more is unanswered
   pub unanswered_more :
       (lane becomes : Lane V C D O R T) (q : Request V O R T) (after : C) → HasAccepted q after lane becomes
@@ -56,9 +63,10 @@ module _ {V C D O R T : Type 0} (view : D → ClientView V O R T) where
     client = is.client;
     waits_room = h.waits_room ∙ is.waits_room;
     afters_room = h.afters_room ∙ is.afters_room;
-    afters =
-        ap length h.afters ∙ one_longer lane.afters.items after ∙ ap (λ m. m + 1) is.afters ∙ sym (one_longer (unanswered view lane) q)
-        ∙ sym (ap length (unanswered_more lane becomes q after h));
+    names =
+        ap names_of h.afters ∙ map-append (λ w. w.name) lane.afters.items ((record { after = after; name = name_of q }) ∷ [])
+        ∙ ap (λ ns. ns ++ name_of q ∷ []) is.names
+        ∙ sym (ap (map name_of) (unanswered_more lane becomes q after h) ∙ map-append name_of (unanswered view lane) (q ∷ []));
     counting =
         let more = ap length (unanswered_more lane becomes q after h) ∙ one_longer (unanswered view lane) q in
         let one = h.counting in

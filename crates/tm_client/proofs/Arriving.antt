@@ -1,5 +1,5 @@
 -- What arrives with answers, and what comes with gifts, counted by trustee and id.
-use Rattle.std.proofs.Common.{◌≡◌, ◌≢◌, ℕ, ◌+◌, ◌<◌, ◌≤◌, true, false, cond, List, [], ◌∷◌, ◌++◌, length, refl, sym, ◌∙◌, ap, arith, eq-eqb, ne_eqb}
+use Rattle.std.proofs.Common.{◌≡◌, ◌≢◌, ℕ, ◌+◌, ◌<◌, ◌≤◌, true, false, cond, List, [], ◌∷◌, ◌++◌, length, map, refl, sym, ◌∙◌, ap, arith, eq-eqb, ne_eqb}
 use Rattle.std.specs.Prelude.{◌==◌}
 use Rattle.std.specs.List.{AllByRecursion, AllZip}
 use Rattle.tm_batch.specs.declared.message.Name.{Name}
@@ -11,17 +11,12 @@ use Rattle.tm_model.specs.Holds.{has_bye, brought, brought_by, gifts_of}
 use Rattle.tm_model.specs.Fits.{Fits}
 use Rattle.tm_client.specs.declared.trust.Trust.{Trust}
 use Rattle.tm_client.specs.declared.answers.Arrival.{Arrival}
-use Rattle.tm_client.specs.Lanes.{asks_in, bringing, IsAccepted}
-use Rattle.tm_client.specs.Clients.{is_at, given, entrusted, IsTakeable, come_of, brought_in, entrusted_in}
+use Rattle.tm_client.specs.declared.lane.Waiting.{Waiting}
+use Rattle.tm_client.specs.Lanes.{asks_in, bringing, IsAccepted, name_of, names_of}
+use Rattle.tm_client.specs.Clients.{given, entrusted, IsTakeable, come_of, brought_in, entrusted_in}
 use Rattle.tm_client.specs.SideLaws.{brings_in}
 use Rattle.tm_client.specs.Turns.{arrivals_of, gifts_from}
-
--- at its own trustee an id counts as it does there, and at no other
-at_own : (t id named : ℕ) → is_at t id t named ≡ cond (named == id) 1 0
-at_own t id named = ap (λ e. cond e (cond (named == id) 1 0) 0) (eq-eqb t t refl)
-
-at_other : (u t id named : ℕ) → u ≢ t → is_at u id t named ≡ 0
-at_other u t id named ne = ap (λ e. cond e (cond (named == id) 1 0) 0) (ne_eqb t u (λ e. ne (sym e)))
+use Rattle.tm_client.proofs.Listed.{at_own, at_other}
 
 pub given-append : (t id : ℕ) (xs ys : List Trust) → given t id (xs ++ ys) ≡ given t id xs + given t id ys
 given-append t id [] ys = omega arith
@@ -100,38 +95,43 @@ module _ {V O R T : Type 0} where
   one_takeable (Grant n d) _ h own = absurd h
   one_takeable (Release n) Released h own = tt
   one_takeable (Release n) _ h own = absurd h
-  one_takeable (Reclaim n) a h own = absurd own
+  one_takeable (Reclaim n) (Reclaimed v) h own = tt
+  one_takeable (Reclaim n) Shared h own = tt
+  one_takeable (Reclaim n) _ h own = absurd h
   one_takeable Bye a h own = absurd own
 
-  one_entrusted : (t id : ℕ) (q : Request V O R T) (a : Answer V O R T) → Fits q a → IsAccepted q → entrusted t id t a ≡ brought id q a
-  one_entrusted t id (Entrust v) (Entrusted name) h own = at_own t id name.id
-  one_entrusted t id (Entrust v) (NotEntrusted refusal back) h own = refl
-  one_entrusted t id (Entrust v) _ h own = absurd h
-  one_entrusted t id (Apply n op) (Replied r) h own = refl
-  one_entrusted t id (Apply n op) _ h own = absurd h
-  one_entrusted t id (Launch n task) a h own = absurd own
-  one_entrusted t id (Grant n d) Granted h own = refl
-  one_entrusted t id (Grant n d) Gone h own = refl
-  one_entrusted t id (Grant n d) GiftsFull h own = refl
-  one_entrusted t id (Grant n d) _ h own = absurd h
-  one_entrusted t id (Release n) Released h own = refl
-  one_entrusted t id (Release n) _ h own = absurd h
-  one_entrusted t id (Reclaim n) a h own = absurd own
-  one_entrusted t id Bye a h own = absurd own
+  one_entrusted : (t id : ℕ) (name : Name) (q : Request V O R T) (a : Answer V O R T) → name ≡ name_of q → Fits q a → IsAccepted q
+      → entrusted t id t name a ≡ brought id q a
+  one_entrusted t id name (Entrust v) (Entrusted own_name) is h own = at_own t id own_name.id
+  one_entrusted t id name (Entrust v) (NotEntrusted refusal back) is h own = refl
+  one_entrusted t id name (Entrust v) _ is h own = absurd h
+  one_entrusted t id name (Apply n op) (Replied r) is h own = refl
+  one_entrusted t id name (Apply n op) _ is h own = absurd h
+  one_entrusted t id name (Launch n task) a is h own = absurd own
+  one_entrusted t id name (Grant n d) Granted is h own = refl
+  one_entrusted t id name (Grant n d) Gone is h own = refl
+  one_entrusted t id name (Grant n d) GiftsFull is h own = refl
+  one_entrusted t id name (Grant n d) _ is h own = absurd h
+  one_entrusted t id name (Release n) Released is h own = refl
+  one_entrusted t id name (Release n) _ is h own = absurd h
+  one_entrusted t id name (Reclaim n) (Reclaimed v) is h own = refl
+  one_entrusted t id name (Reclaim n) Shared is h own = at_own t id name.id ∙ ap (λ m. cond (m.id == id) 1 0) is
+  one_entrusted t id name (Reclaim n) _ is h own = absurd h
+  one_entrusted t id name Bye a is h own = absurd own
 
-  other_entrusted : (u t id : ℕ) (a : Answer V O R T) → u ≢ t → entrusted u id t a ≡ 0
-  other_entrusted u t id (Entrusted name) ne = at_other u t id name.id ne
-  other_entrusted u t id (NotEntrusted refusal back) ne = refl
-  other_entrusted u t id (Replied r) ne = refl
-  other_entrusted u t id (Launched ticket) ne = refl
-  other_entrusted u t id (TicketsSpent task) ne = refl
-  other_entrusted u t id Granted ne = refl
-  other_entrusted u t id Gone ne = refl
-  other_entrusted u t id GiftsFull ne = refl
-  other_entrusted u t id Released ne = refl
-  other_entrusted u t id (Reclaimed v) ne = refl
-  other_entrusted u t id Shared ne = refl
-  other_entrusted u t id ByeDone ne = refl
+  other_entrusted : (u t id : ℕ) (name : Name) (a : Answer V O R T) → u ≢ t → entrusted u id t name a ≡ 0
+  other_entrusted u t id name (Entrusted own) ne = at_other u t id own.id ne
+  other_entrusted u t id name (NotEntrusted refusal back) ne = refl
+  other_entrusted u t id name (Replied r) ne = refl
+  other_entrusted u t id name (Launched ticket) ne = refl
+  other_entrusted u t id name (TicketsSpent task) ne = refl
+  other_entrusted u t id name Granted ne = refl
+  other_entrusted u t id name Gone ne = refl
+  other_entrusted u t id name GiftsFull ne = refl
+  other_entrusted u t id name Released ne = refl
+  other_entrusted u t id name (Reclaimed v) ne = refl
+  other_entrusted u t id name Shared ne = at_other u t id name.id ne
+  other_entrusted u t id name ByeDone ne = refl
 
 module _ {V O R T C : Type 0} where
   pub come_of-append : (t : ℕ) (xs ys : List (Arrival V C O R T)) → come_of t (xs ++ ys) ≡ come_of t xs + come_of t ys
@@ -147,7 +147,7 @@ module _ {V O R T C : Type 0} where
   entrusted_in-append t id (x ∷ xs) ys = let more = entrusted_in-append t id xs ys in omega (arith, more)
 
   -- what arrives of trustee t with the answers to the batch b
-  pub record Arrives (t n : ℕ) (b : List (Request V O R T)) (ks : List C) (answers : List (Answer V O R T)) : Type 0 where
+  pub record Arrives (t n : ℕ) (b : List (Request V O R T)) (ks : List (Waiting C)) (answers : List (Answer V O R T)) : Type 0 where
     pub many : length (arrivals_of t ks answers) ≡ length (asks_in b)
     pub here : come_of t (arrivals_of t ks answers) ≡ length (asks_in b)
     pub elsewhere : (u : ℕ) → u ≢ t → come_of u (arrivals_of t ks answers) ≡ 0
@@ -156,49 +156,52 @@ module _ {V O R T C : Type 0} where
     pub entrusted_elsewhere : (u id : ℕ) → u ≢ t → entrusted_in u id (arrivals_of t ks answers) ≡ 0
     pub takeable : AllByRecursion (λ a. (a.trustee < n) × IsTakeable a.answer) (arrivals_of t ks answers)
 
-  many_arrive : (t : ℕ) (ks : List C) (answers : List (Answer V O R T)) → length answers ≤ length ks → length (arrivals_of t ks answers) ≡ length answers
+  many_arrive : (t : ℕ) (ks : List (Waiting C)) (answers : List (Answer V O R T)) → length answers ≤ length ks → length (arrivals_of t ks answers) ≡ length answers
   many_arrive t [] [] le = refl
   many_arrive t [] (a ∷ answers) le = absurd (omega (arith, le))
   many_arrive t (k ∷ ks) [] le = refl
   many_arrive t (k ∷ ks) (a ∷ answers) le = let more = many_arrive t ks answers (omega (arith, le)) in omega (arith, more)
 
-  here_arrive : (t : ℕ) (ks : List C) (answers : List (Answer V O R T)) → come_of t (arrivals_of t ks answers) ≡ length (arrivals_of t ks answers)
+  here_arrive : (t : ℕ) (ks : List (Waiting C)) (answers : List (Answer V O R T)) → come_of t (arrivals_of t ks answers) ≡ length (arrivals_of t ks answers)
   here_arrive t [] answers = refl
   here_arrive t (k ∷ ks) [] = refl
   here_arrive t (k ∷ ks) (a ∷ answers) =
       let own = ap {B = ℕ} (λ e. cond e 1 0) (eq-eqb t t refl) in let more = here_arrive t ks answers in omega (arith, own, more)
 
-  elsewhere_arrive : (u t : ℕ) (ks : List C) (answers : List (Answer V O R T)) → u ≢ t → come_of u (arrivals_of t ks answers) ≡ 0
+  elsewhere_arrive : (u t : ℕ) (ks : List (Waiting C)) (answers : List (Answer V O R T)) → u ≢ t → come_of u (arrivals_of t ks answers) ≡ 0
   elsewhere_arrive u t [] answers ne = refl
   elsewhere_arrive u t (k ∷ ks) [] ne = refl
   elsewhere_arrive u t (k ∷ ks) (a ∷ answers) ne =
       let other = ap {B = ℕ} (λ e. cond e 1 0) (ne_eqb t u (λ e. ne (sym e))) in let more = elsewhere_arrive u t ks answers ne in omega (arith, other, more)
 
-  brought_arrive : (t : ℕ) (ks : List C) (answers : List (Answer V O R T)) → length answers ≤ length ks → brought_in (arrivals_of t ks answers) ≡ brings_in answers
+  brought_arrive : (t : ℕ) (ks : List (Waiting C)) (answers : List (Answer V O R T)) → length answers ≤ length ks → brought_in (arrivals_of t ks answers) ≡ brings_in answers
   brought_arrive t [] [] le = refl
   brought_arrive t [] (a ∷ answers) le = absurd (omega (arith, le))
   brought_arrive t (k ∷ ks) [] le = refl
   brought_arrive t (k ∷ ks) (a ∷ answers) le = let more = brought_arrive t ks answers (omega (arith, le)) in omega (arith, more)
 
-  entrusted_else : (u t id : ℕ) (ks : List C) (answers : List (Answer V O R T)) → u ≢ t → entrusted_in u id (arrivals_of t ks answers) ≡ 0
+  entrusted_else : (u t id : ℕ) (ks : List (Waiting C)) (answers : List (Answer V O R T)) → u ≢ t → entrusted_in u id (arrivals_of t ks answers) ≡ 0
   entrusted_else u t id [] answers ne = refl
   entrusted_else u t id (k ∷ ks) [] ne = refl
   entrusted_else u t id (k ∷ ks) (a ∷ answers) ne =
-      let first = other_entrusted u t id a ne in let more = entrusted_else u t id ks answers ne in omega (arith, first, more)
+      let first = other_entrusted u t id k.name a ne in let more = entrusted_else u t id ks answers ne in omega (arith, first, more)
 
-  entrusted_arrive : (t id : ℕ) (b : List (Request V O R T)) (ks : List C) (answers : List (Answer V O R T)) → AllZip Fits b answers → AllByRecursion IsAccepted b
+  entrusted_arrive : (t id : ℕ) (b : List (Request V O R T)) (ks : List (Waiting C)) (answers : List (Answer V O R T)) (rest : List Name)
+      → names_of ks ≡ map name_of b ++ rest → AllZip Fits b answers → AllByRecursion IsAccepted b
       → length answers ≤ length ks → entrusted_in t id (arrivals_of t ks answers) ≡ brought_by id b answers
-  entrusted_arrive t id [] [] [] fits own le = refl
-  entrusted_arrive t id [] (k ∷ ks) [] fits own le = refl
-  entrusted_arrive t id [] ks (a ∷ answers) fits own le = absurd fits
-  entrusted_arrive t id (q ∷ b) ks [] fits own le = absurd fits
-  entrusted_arrive t id (q ∷ b) [] (a ∷ answers) fits own le = absurd (omega (arith, le))
-  entrusted_arrive t id (q ∷ b) (k ∷ ks) (a ∷ answers) fits own le =
-      let first = one_entrusted t id q a fits.0 own.0 in
-      let more = entrusted_arrive t id b ks answers fits.1 own.1 (omega (arith, le)) in
+  entrusted_arrive t id [] [] [] rest names fits own le = refl
+  entrusted_arrive t id [] (k ∷ ks) [] rest names fits own le = refl
+  entrusted_arrive t id [] ks (a ∷ answers) rest names fits own le = absurd fits
+  entrusted_arrive t id (q ∷ b) ks [] rest names fits own le = absurd fits
+  entrusted_arrive t id (q ∷ b) [] (a ∷ answers) rest names fits own le = absurd (omega (arith, le))
+  entrusted_arrive t id (q ∷ b) (k ∷ ks) (a ∷ answers) rest names fits own le =
+      let named : k.name ≡ name_of q = cc in
+      let all : names_of ks ≡ map name_of b ++ rest = cc in
+      let first = one_entrusted t id k.name q a named fits.0 own.0 in
+      let more = entrusted_arrive t id b ks answers rest all fits.1 own.1 (omega (arith, le)) in
       omega (arith, first, more)
 
-  takeable_arrive : (t n : ℕ) (b : List (Request V O R T)) (ks : List C) (answers : List (Answer V O R T)) → t < n → AllZip Fits b answers
+  takeable_arrive : (t n : ℕ) (b : List (Request V O R T)) (ks : List (Waiting C)) (answers : List (Answer V O R T)) → t < n → AllZip Fits b answers
       → AllByRecursion IsAccepted b → AllByRecursion (λ a. (a.trustee < n) × IsTakeable a.answer) (arrivals_of t ks answers)
   takeable_arrive t n b [] answers lt fits own = tt
   takeable_arrive t n b (k ∷ ks) [] lt fits own = tt
@@ -207,9 +210,10 @@ module _ {V O R T C : Type 0} where
       ((lt, one_takeable q a fits.0 own.0), takeable_arrive t n b ks answers lt fits.1 own.1)
 
   -- with the answers to requests that were accepted
-  pub arrives : (t n : ℕ) (b : List (Request V O R T)) (ks : List C) (answers : List (Answer V O R T)) → t < n → AllZip Fits b answers
+  pub arrives : (t n : ℕ) (b : List (Request V O R T)) (ks : List (Waiting C)) (answers : List (Answer V O R T)) (rest : List Name)
+      → names_of ks ≡ map name_of b ++ rest → t < n → AllZip Fits b answers
       → length answers ≡ length b → brings_in answers ≡ bringing b → has_bye b ≡ false → AllByRecursion IsAccepted b → length b ≤ length ks → Arrives t n b ks answers
-  arrives t n b ks answers lt fits same bring none own le =
+  arrives t n b ks answers rest names lt fits same bring none own le =
       let all = ap length (no_bye_asks b none) in
       let many = many_arrive t ks answers (omega (arith, same, le)) in
       let here = here_arrive t ks answers in
@@ -218,7 +222,7 @@ module _ {V O R T C : Type 0} where
         here = omega (arith, all, many, same, here);
         elsewhere = λ u ne. elsewhere_arrive u t ks answers ne;
         brought = brought_arrive t ks answers (omega (arith, same, le)) ∙ bring;
-        entrusted = λ id. entrusted_arrive t id b ks answers fits own (omega (arith, same, le));
+        entrusted = λ id. entrusted_arrive t id b ks answers rest names fits own (omega (arith, same, le));
         entrusted_elsewhere = λ u id ne. entrusted_else u t id ks answers ne;
         takeable = takeable_arrive t n b ks answers lt fits own;
       }

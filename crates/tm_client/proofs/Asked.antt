@@ -1,129 +1,23 @@
--- A client that accepts a request.
-use Rattle.std.proofs.Common.{◌≡◌, ℕ, ◌+◌, ◌<◌, ◌≤◌, false, List, [], ◌∷◌, ◌++◌, length, inl, inr, refl, sym, ◌∙◌, ap, subst, arith, append_assoc, length-append, length-set, eq-eqb, zero, suc}
-use Rattle.std.specs.Prelude.{slice_get, IsSomeAnd}
-use Rattle.std.specs.List.{Contains}
+-- A client that accepts a request stays a client.
+use Rattle.std.proofs.Common.{◌≡◌, ℕ, ◌+◌, ◌<◌, [], ◌∷◌, ◌++◌, length, inl, inr, sym, ◌∙◌, ap, subst, arith, append_assoc, length-append, length-set}
+use Rattle.std.specs.Prelude.{slice_get}
 use Rattle.std.specs.declared.option.Option.TheVariants.{Some}
 use Rattle.std.proofs.lemmas.Option.{slice_get_within}
-use Rattle.tm_batch.specs.declared.limits.TheConstants.{WINDOW}
 use Rattle.tm_batch.specs.declared.message.Request.{Request}
-use Rattle.tm_batch.specs.declared.message.Request.TheVariants.{Entrust, Apply, Grant}
 use Rattle.tm_model.specs.State.{State}
 use Rattle.tm_model.specs.Holds.{Names, gave, came}
-use Rattle.tm_model.specs.Orderly.{GrantsBelow}
-use Rattle.tm_core.proofs.CallerLemmas.{found}
+use Rattle.tm_core.proofs.Tallies.{gave-append}
 use Rattle.tm_pair.specs.Views.{ClientView}
 use Rattle.tm_client.specs.declared.lane.Lane.{Lane}
-use Rattle.tm_client.specs.declared.trust.Hold.{Hold}
-use Rattle.tm_client.specs.declared.trust.Trust.{Trust}
 use Rattle.tm_client.specs.declared.books.Books.{Books}
-use Rattle.tm_client.specs.Lanes.{asks_in, out_requests, out_room, bringing, IsAccepted, HasAccepted, unanswered, IsLane}
-use Rattle.tm_client.specs.Clients.{is_at, listed, come_of, entrusted_in, given, brought_in, lane_coming, lanes_coming, lanes_unanswered, lanes_counting, IsClient}
-use Rattle.tm_client.specs.Asking.{At, IsOpen, HasRoom, MayApply, MayGrant, MayEntrust, HasAsked}
-use Rattle.tm_client.proofs.Elements.{set_cases, element_at, same_element, total_set, contained}
-use Rattle.tm_core.proofs.Tallies.{gave-append}
+use Rattle.tm_client.specs.Listing.{listed}
+use Rattle.tm_client.specs.Lanes.{out_room, bringing, HasAccepted, unanswered, IsLane}
+use Rattle.tm_client.specs.Clients.{come_of, entrusted_in, given, brought_in, lane_coming, lanes_coming, lanes_unanswered, lanes_counting, IsClient}
+use Rattle.tm_client.proofs.Elements.{set_cases, total_set}
 use Rattle.tm_client.proofs.Accepting.{bringing-append, unanswered_more, accepting_keeps}
-
--- what is asked of a request besides: it is of a kind that is accepted, the client holds what it names, and gives nothing away by it
-pub record MayAsk {V C D O R T : Type 0} (t : ℕ) (q : Request V O R T) (more : ℕ) (books : Books V C D O R T) : Type 0 where
-  pub free : (lane : Lane V C D O R T) → slice_get books.lanes.items t ≡ Some lane → (lane.closing ≡ false) × (lane.counting < WINDOW)
-  pub accepted : IsAccepted q
-  pub grant : GrantsBelow books.clients q
-  pub held : (id : ℕ) → Names q id → 1 ≤ listed t id books.held.items
-  pub none : (id : ℕ) → gave id (q ∷ []) ≡ 0
-  pub by : more ≡ bringing (q ∷ [])
-  pub most : length books.held.items + (books.coming + more) ≤ books.most
-
-is_at_self : (t id : ℕ) → is_at t id t id ≡ 1
-is_at_self t id = rw (eq-eqb t t refl, eq-eqb id id refl) refl
-
--- a trust that a list has is counted
-pub listed_has : (t id : ℕ) (held : List Hold) → Contains held (record { trustee = t; id = id }) → 1 ≤ listed t id held
-listed_has t id [] (i, lt, e) = absurd (omega (arith, lt))
-listed_has t id (h ∷ held) (zero, lt, e) =
-    let is : h ≡ record { trustee = t; id = id } = e in
-    let one : is_at t id h.trustee h.id ≡ 1 = ap (λ x. is_at t id x.trustee x.id) is ∙ is_at_self t id in
-    omega arith
-listed_has t id (h ∷ held) (suc i, lt, e) =
-    let rest = listed_has t id held (i, omega (arith, lt), e) in omega arith
-
-module _ {V C D O R T : Type 0} where
-  open_and_room :
-      (books : Books V C D O R T) (t : ℕ) → IsOpen books t → HasRoom books t
-      → (lane : Lane V C D O R T) → slice_get books.lanes.items t ≡ Some lane → (lane.closing ≡ false) × (lane.counting < WINDOW)
-  open_and_room books t is_open room lane e =
-      (subst (λ o. IsSomeAnd o (λ l. l.closing ≡ false)) e is_open, subst (λ o. IsSomeAnd o (λ l. l.counting < WINDOW)) e room)
-
-  pub apply_may : (books : Books V C D O R T) (trust : Trust) (op : O) → MayApply books trust → length books.held.items + books.coming ≤ books.most
-      → MayAsk trust.trustee (Apply trust.name op) 0 books
-  apply_may books trust op (held, is_open, room) most = record {
-    free = open_and_room books trust.trustee is_open room;
-    accepted = tt;
-    grant = tt;
-    held = λ id names. subst (λ i. 1 ≤ listed trust.trustee i books.held.items) names (listed_has trust.trustee trust.name.id books.held.items held.1);
-    none = λ id. refl;
-    by = refl;
-    most = omega (arith, most);
-  }
-
-  pub grant_may : (books : Books V C D O R T) (trust : Trust) (to : ℕ) → MayGrant books trust to → length books.held.items + books.coming ≤ books.most
-      → MayAsk trust.trustee (Grant trust.name to) 0 books
-  grant_may books trust to (held, is_open, below, room) most = record {
-    free = open_and_room books trust.trustee is_open room;
-    accepted = tt;
-    grant = below;
-    held = λ id names. subst (λ i. 1 ≤ listed trust.trustee i books.held.items) names (listed_has trust.trustee trust.name.id books.held.items held.1);
-    none = λ id. refl;
-    by = refl;
-    most = omega (arith, most);
-  }
-
-  pub entrust_may : (books : Books V C D O R T) (t : ℕ) (v : V) → MayEntrust books t → MayAsk t (Entrust v) 1 books
-  entrust_may books t v (is_open, less, room) = record {
-    free = open_and_room books t is_open room;
-    accepted = tt;
-    grant = tt;
-    held = λ id names. absurd names;
-    none = λ id. refl;
-    by = refl;
-    most = omega (arith, less);
-  }
+use Rattle.tm_client.proofs.Allowed.{MayAsk, Asks}
 
 module _ {V C D O R T : Type 0} (view : D → ClientView V O R T) where
-  -- at each lane at most a window of requests counts
-  pub window_at :
-      (openings : ℕ → State V O R T) (books : Books V C D O R T) (t : ℕ) → IsClient view openings books → t < length books.lanes.items
-      → At books t (λ lane. lane.counting ≤ WINDOW)
-  window_at openings books t is lt =
-      let (lane, e) = element_at books.lanes.items t lt in rw e (is.lanes t lane e).window
-
-  -- the lane of a trust that the client holds is there
-  pub trust_within :
-      (openings : ℕ → State V O R T) (books : Books V C D O R T) (t id : ℕ) → IsClient view openings books
-      → Contains books.held.items (record { trustee = t; id = id }) → t < length books.lanes.items
-  trust_within openings books t id is has =
-      contained (λ h. h.trustee < length books.lanes.items) books.held.items (record { trustee = t; id = id }) is.held has
-
-  pub room_within : (books : Books V C D O R T) (t : ℕ) → HasRoom books t → t < length books.lanes.items
-  room_within books t room =
-      let (lane, e, less) = found (slice_get books.lanes.items t) (λ l. l.counting < WINDOW) room in slice_get_within books.lanes.items t lane e
-
-  -- a lane at which one more request may count has room for it
-  pub room_at :
-      (openings : ℕ → State V O R T) (books : Books V C D O R T) (t : ℕ) (lane : Lane V C D O R T) → IsClient view openings books
-      → HasRoom books t → slice_get books.lanes.items t ≡ Some lane
-      → (length lane.waits.items < lane.waits.capacity) × (length lane.afters.items < lane.afters.capacity) × (lane.counting < WINDOW)
-  room_at openings books t lane is room e =
-      let (other, there, less) = found (slice_get books.lanes.items t) (λ l. l.counting < WINDOW) room in
-      let same : other ≡ lane = same_element books.lanes.items t lane other e there in
-      let below : lane.counting < WINDOW = subst (λ l. l.counting < WINDOW) same less in
-      let one = is.lanes t lane e in
-      let all = length-append (asks_in (out_requests (view lane.side).out)) lane.waits.items in
-      let counts = one.counting in
-      let afters = one.afters in
-      let waits_room = one.waits_room in
-      let afters_room = one.afters_room in
-      (omega arith, omega arith, below)
-
   -- where a lane is given, and how many trusts may come of it
   coming_more :
       (lane becomes : Lane V C D O R T) (q : Request V O R T) (after : C) → HasAccepted q after lane becomes
@@ -134,7 +28,7 @@ module _ {V C D O R T : Type 0} (view : D → ClientView V O R T) where
       omega arith
 
   module _ (openings : ℕ → State V O R T) (t : ℕ) (q : Request V O R T) (after : C) (more : ℕ) (old new : Books V C D O R T)
-      (is : IsClient view openings old) (a : HasAsked t q after more old new) (may : MayAsk t q more old) where
+      (is : IsClient view openings old) (a : Asks t q after more old new) (may : MayAsk t q more old) where
     within : t < length old.lanes.items
     within = slice_get_within old.lanes.items t a.lane a.of_lane
 
@@ -159,40 +53,45 @@ module _ {V C D O R T : Type 0} (view : D → ClientView V O R T) where
     lanes_are : (u : ℕ) (lane : Lane V C D O R T) → slice_get new.lanes.items u ≡ Some lane
         → IsLane view (openings u) new.number (come_of u new.arrived.items) lane
     lanes_are u lane e =
-        rw (a.rest.number, a.rest.arrived) (
+        rw (a.number, a.arrived) (
         elim (set_cases old.lanes.items t u a.becomes lane (subst (λ xs. slice_get xs u ≡ Some lane) a.lanes e)) [
           | inl (same, becomes) ↦ rw (same, becomes) becomes_lane
           | inr (other, there) ↦ is.lanes u lane there
         ]
         )
 
-    gave_more : (id : ℕ) → gave id ((view a.becomes.side).sent ++ a.becomes.waits.items) ≡ gave id ((view a.lane.side).sent ++ a.lane.waits.items)
+    gave_more : (id : ℕ)
+        → gave id ((view a.becomes.side).sent ++ a.becomes.waits.items) ≡ gave id ((view a.lane.side).sent ++ a.lane.waits.items) + gave id (q ∷ [])
     gave_more id =
         rw (a.accepts.side, a.accepts.waits) (
         ap (λ qs. gave id qs) (sym (append_assoc (view a.lane.side).sent a.lane.waits.items (q ∷ [])))
         ∙ gave-append id ((view a.lane.side).sent ++ a.lane.waits.items) (q ∷ [])
-        ∙ (let none = may.none id in omega arith)
         )
 
     becomes_holds : (id : ℕ)
-        → listed t id old.held.items + (entrusted_in t id old.arrived.items + given t id old.gifts.items) + gave id ((view a.becomes.side).sent ++ a.becomes.waits.items)
+        → listed t id new.held + (entrusted_in t id old.arrived.items + given t id old.gifts.items) + gave id ((view a.becomes.side).sent ++ a.becomes.waits.items)
         ≡ came (openings t) old.number (view a.becomes.side).sent (view a.becomes.side).got id
-    becomes_holds id = rw (gave_more id, a.accepts.side) (is.holds t a.lane id a.of_lane)
+    becomes_holds id =
+        rw (gave_more id, a.accepts.side) (
+        let moved = a.moved id in
+        let before = is.holds t a.lane id a.of_lane in
+        omega (arith, moved, before)
+        )
 
     holds_are : (u : ℕ) (lane : Lane V C D O R T) (id : ℕ) → slice_get new.lanes.items u ≡ Some lane
-        → listed u id new.held.items + (entrusted_in u id new.arrived.items + given u id new.gifts.items) + gave id ((view lane.side).sent ++ lane.waits.items)
+        → listed u id new.held + (entrusted_in u id new.arrived.items + given u id new.gifts.items) + gave id ((view lane.side).sent ++ lane.waits.items)
         ≡ came (openings u) new.number (view lane.side).sent (view lane.side).got id
     holds_are u lane id e =
-        rw (a.rest.number, a.rest.arrived, a.rest.held, a.rest.gifts) (
+        rw (a.number, a.arrived, a.gifts) (
         elim (set_cases old.lanes.items t u a.becomes lane (subst (λ xs. slice_get xs u ≡ Some lane) a.lanes e)) [
           | inl (same, becomes) ↦ rw (same, becomes) (becomes_holds id)
-          | inr (other, there) ↦ is.holds u lane id there
+          | inr (other, there) ↦ rw (a.elsewhere u id other) (is.holds u lane id there)
         ]
         )
 
     coming_is : new.coming ≡ lanes_coming view new.lanes.items + brought_in new.arrived.items + length new.gifts.items
     coming_is =
-        rw (a.rest.arrived, a.rest.gifts, a.lanes) (
+        rw (a.arrived, a.gifts, a.lanes) (
         let set = total_set (λ lane. lane_coming view lane) old.lanes.items t a.lane a.becomes a.of_lane in
         let one = coming_more a.lane a.becomes q after a.accepts in
         let before = is.coming in
@@ -203,7 +102,7 @@ module _ {V C D O R T : Type 0} (view : D → ClientView V O R T) where
 
     counting_is : length new.arrived.items + lanes_unanswered view new.lanes.items ≡ lanes_counting view new.lanes.items
     counting_is =
-        rw (a.rest.arrived, a.lanes) (
+        rw (a.arrived, a.lanes) (
         let set = total_set (λ lane. length (unanswered view lane)) old.lanes.items t a.lane a.becomes a.of_lane in
         let counts = total_set (λ lane. lane.counting) old.lanes.items t a.lane a.becomes a.of_lane in
         let longer = ap length (unanswered_more view a.lane a.becomes q after a.accepts) ∙ length-append (unanswered view a.lane) (q ∷ []) in
@@ -215,16 +114,16 @@ module _ {V C D O R T : Type 0} (view : D → ClientView V O R T) where
     pub asking_keeps : IsClient view openings new
     asking_keeps = record {
       lanes = lanes_are;
-      clients = λ u lt. is.clients u (subst (λ n. u < n) as_many lt) ∙ sym a.rest.clients;
+      clients = λ u lt. is.clients u (subst (λ n. u < n) as_many lt) ∙ sym a.clients;
       holds = holds_are;
-      held = rw (a.rest.held, as_many) is.held;
+      held = rw as_many (a.standing (length old.lanes.items) is.held);
       coming = coming_is;
-      most = rw (a.rest.held, a.rest.most, a.coming) may.most;
-      limit = rw a.rest.most is.limit;
-      arrived = rw (a.rest.arrived, as_many) is.arrived;
-      gifts = rw (a.rest.gifts, as_many, a.rest.number) is.gifts;
+      most = a.fits;
+      limit = rw a.most is.limit;
+      arrived = rw (a.arrived, as_many) is.arrived;
+      gifts = rw (a.gifts, as_many, a.number) is.gifts;
       counting = counting_is;
-      held_room = rw (a.rest.held, a.rest.most) is.held_room;
-      gifts_room = rw (a.rest.gifts, a.rest.most) is.gifts_room;
-      arrived_room = rw (a.rest.arrived, as_many) is.arrived_room;
+      held_room = rw (a.room, a.most) is.held_room;
+      gifts_room = rw (a.gifts, a.most) is.gifts_room;
+      arrived_room = rw (a.arrived, as_many) is.arrived_room;
     }

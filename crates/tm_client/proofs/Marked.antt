@@ -8,7 +8,8 @@ use Rattle.tm_pair.specs.Views.{ClientView}
 use Rattle.tm_client.specs.declared.lane.Lane.{Lane}
 use Rattle.tm_client.specs.declared.books.Books.{Books}
 use Rattle.tm_client.specs.Lanes.{unanswered, IsLane}
-use Rattle.tm_client.specs.Clients.{listed, come_of, entrusted_in, given, lane_coming, IsClient}
+use Rattle.tm_client.specs.Listing.{listed}
+use Rattle.tm_client.specs.Clients.{come_of, entrusted_in, given, lane_coming, IsClient}
 use Rattle.tm_client.specs.Marking.{marked, HasMarked}
 use Rattle.tm_client.proofs.Elements.{set_cases, total_set}
 
@@ -21,7 +22,7 @@ module _ {V C D O R T : Type 0} (view : D → ClientView V O R T) where
     client = is.client;
     waits_room = is.waits_room;
     afters_room = is.afters_room;
-    afters = is.afters;
+    names = is.names;
     counting = is.counting;
     window = is.window;
     out = is.out;
@@ -59,12 +60,12 @@ module _ {V C D O R T : Type 0} (view : D → ClientView V O R T) where
         )
 
     becomes_holds : (id : ℕ)
-        → listed t id old.held.items + (entrusted_in t id old.arrived.items + given t id old.gifts.items) + gave id ((view becomes.side).sent ++ becomes.waits.items)
+        → listed t id old.held + (entrusted_in t id old.arrived.items + given t id old.gifts.items) + gave id ((view becomes.side).sent ++ becomes.waits.items)
         ≡ came (openings t) old.number (view becomes.side).sent (view becomes.side).got id
     becomes_holds id = is.holds t a.lane id a.of_lane
 
     holds_are : (u : ℕ) (lane : Lane V C D O R T) (id : ℕ) → slice_get new.lanes.items u ≡ Some lane
-        → listed u id new.held.items + (entrusted_in u id new.arrived.items + given u id new.gifts.items) + gave id ((view lane.side).sent ++ lane.waits.items)
+        → listed u id new.held + (entrusted_in u id new.arrived.items + given u id new.gifts.items) + gave id ((view lane.side).sent ++ lane.waits.items)
         ≡ came (openings u) new.number (view lane.side).sent (view lane.side).got id
     holds_are u lane id e =
         rw (a.rest.number, a.rest.arrived, a.rest.held, a.rest.gifts) (

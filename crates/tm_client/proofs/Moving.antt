@@ -4,6 +4,7 @@ use Rattle.std.specs.Prelude.{slice_get, slice_index_or, remove}
 use Rattle.std.specs.declared.option.Option.TheVariants.{None, Some}
 use Rattle.tm_batch.specs.declared.message.Answer.{Answer}
 use Rattle.tm_client.specs.declared.answers.Arrival.{Arrival}
+use Rattle.tm_client.specs.declared.lane.Waiting.{Waiting}
 use Rattle.tm_client.specs.Turns.{arrivals_of}
 
 next_is : (n : ℕ) → suc n ≡ n + 1
@@ -34,7 +35,7 @@ module _ {X : Type 0} where
   none_first [] e = refl
   none_first (x ∷ xs) e = absurd cc
 
-  nothing_left : (n : ℕ) → drop {A = X} n [] ≡ []
+  pub nothing_left : (n : ℕ) → drop {A = X} n [] ≡ []
   nothing_left zero = refl
   nothing_left (suc n) = refl
 
@@ -56,35 +57,35 @@ module _ {X : Type 0} where
   removed (y ∷ xs) ys x lt is e = rw e (ap (λ z. z ∷ xs) (sym is))
 
 module _ {V C O R T : Type 0} where
-  pub arrivals_first : (t : ℕ) (cs : List C) (a : Answer V O R T) (answers : List (Answer V O R T))
+  pub arrivals_first : (t : ℕ) (cs : List (Waiting C)) (a : Answer V O R T) (answers : List (Answer V O R T))
       → arrivals_of t cs (a ∷ answers) ≡ arrivals_of t cs (a ∷ []) ++ arrivals_of t (drop 1 cs) answers
   arrivals_first t [] a answers = refl
   arrivals_first t (c ∷ []) a answers = refl
   arrivals_first t (c ∷ d ∷ cs) a answers = refl
 
-  pub arrivals_short : (t : ℕ) (cs : List C) (a : Answer V O R T) → length (arrivals_of t cs (a ∷ [])) ≡ min 1 (length cs)
+  pub arrivals_short : (t : ℕ) (cs : List (Waiting C)) (a : Answer V O R T) → length (arrivals_of t cs (a ∷ [])) ≡ min 1 (length cs)
   arrivals_short t [] a = refl
   arrivals_short t (c ∷ []) a = omega arith
   arrivals_short t (c ∷ d ∷ cs) a = omega arith
 
-  pub arrivals_none : (t : ℕ) (cs : List C) → arrivals_of {V = V} {O = O} {R = R} {T = T} t cs [] ≡ []
+  pub arrivals_none : (t : ℕ) (cs : List (Waiting C)) → arrivals_of {V = V} {O = O} {R = R} {T = T} t cs [] ≡ []
   arrivals_none t [] = refl
   arrivals_none t (c ∷ cs) = refl
 
-  pub arrivals_at_end : (t : ℕ) (arrived all : List (Arrival V C O R T)) (cs : List C) (answers : List (Answer V O R T)) → answers ≡ []
+  pub arrivals_at_end : (t : ℕ) (arrived all : List (Arrival V C O R T)) (cs : List (Waiting C)) (answers : List (Answer V O R T)) → answers ≡ []
       → arrived ++ arrivals_of t cs answers ≡ all → arrived ≡ all
   arrivals_at_end t arrived all cs answers none e =
       sym (append-nil arrived) ∙ ap (λ l. arrived ++ l) (sym (ap (λ xs. arrivals_of t cs xs) none ∙ arrivals_none t cs)) ∙ e
 
-  pub arrivals_one : (t : ℕ) (cs : List C) (c : C) (a : Answer V O R T) → slice_get cs 0 ≡ Some c
-      → arrivals_of t cs (a ∷ []) ≡ (record { trustee = t; after = c; answer = a }) ∷ []
+  pub arrivals_one : (t : ℕ) (cs : List (Waiting C)) (c : Waiting C) (a : Answer V O R T) → slice_get cs 0 ≡ Some c
+      → arrivals_of t cs (a ∷ []) ≡ (record { trustee = t; name = c.name; after = c.after; answer = a }) ∷ []
   arrivals_one t [] c a e = absurd cc
-  arrivals_one t (d ∷ []) c a e = let is : d ≡ c = cc in ap (λ x. (record { trustee = t; after = x; answer = a }) ∷ []) is
-  arrivals_one t (d ∷ f ∷ cs) c a e = let is : d ≡ c = cc in ap (λ x. (record { trustee = t; after = x; answer = a }) ∷ []) is
+  arrivals_one t (d ∷ []) c a e = let is : d ≡ c = cc in ap (λ x. (record { trustee = t; name = x.name; after = x.after; answer = a }) ∷ []) is
+  arrivals_one t (d ∷ f ∷ cs) c a e = let is : d ≡ c = cc in ap (λ x. (record { trustee = t; name = x.name; after = x.after; answer = a }) ∷ []) is
 
   -- the loop that lets answers arrive, one answer on
   pub arriving :
-      (t : ℕ) (arrived arrived_new all : List (Arrival V C O R T)) (cs cs_new : List C) (a : Answer V O R T) (answers rest : List (Answer V O R T))
+      (t : ℕ) (arrived arrived_new all : List (Arrival V C O R T)) (cs cs_new : List (Waiting C)) (a : Answer V O R T) (answers rest : List (Answer V O R T))
       → answers ≡ a ∷ rest → arrived_new ≡ arrived ++ arrivals_of t cs (a ∷ []) → cs_new ≡ drop 1 cs
       → arrived ++ arrivals_of t cs answers ≡ all → arrived_new ++ arrivals_of t cs_new rest ≡ all
   arriving t arrived arrived_new all cs cs_new a answers rest is now more e =
@@ -94,7 +95,7 @@ module _ {V C O R T : Type 0} where
       )
 
   pub arriving_room :
-      (t cap : ℕ) (arrived arrived_new : List (Arrival V C O R T)) (cs cs_new : List C) (a : Answer V O R T) (answers rest : List (Answer V O R T))
+      (t cap : ℕ) (arrived arrived_new : List (Arrival V C O R T)) (cs cs_new : List (Waiting C)) (a : Answer V O R T) (answers rest : List (Answer V O R T))
       → answers ≡ a ∷ rest → arrived_new ≡ arrived ++ arrivals_of t cs (a ∷ []) → cs_new ≡ drop 1 cs
       → length arrived + min (length answers) (length cs) ≤ cap → length arrived_new + min (length rest) (length cs_new) ≤ cap
   arriving_room t cap arrived arrived_new cs cs_new a answers rest is now more e =

@@ -1,9 +1,11 @@
 -- A client that took in what came of a trustee stays a client.
-use Rattle.std.proofs.Common.{◌≡◌, ◌≢◌, ℕ, ◌+◌, ◌<◌, ◌≤◌, ◌⊎◌, true, false, List, [], ◌∷◌, ◌++◌, length, drop, inl, inr, refl, sym, ◌∙◌, ap, subst, arith, length-append, length-set, length-drop}
+use Rattle.std.proofs.Common.{◌≡◌, ◌≢◌, ℕ, ◌+◌, ◌<◌, ◌≤◌, ◌⊎◌, true, false, List, [], ◌∷◌, ◌++◌, length, map, drop, inl, inr, refl, sym, ◌∙◌, ap, subst, arith, length-append, length-set}
 use Rattle.std.specs.Prelude.{Bool, slice_get}
 use Rattle.std.specs.List.{AllByRecursion}
 use Rattle.std.specs.declared.option.Option.TheVariants.{Some}
 use Rattle.std.proofs.lemmas.Option.{slice_get_within}
+use Rattle.std.proofs.lemmas.List.{drop-map, length-map, map-append}
+use Rattle.std.proofs.Math.Seq.{drop-append_seam}
 use Rattle.tm_batch.specs.declared.message.Request.{Request}
 use Rattle.tm_batch.specs.declared.message.AnswerBatch.{AnswerBatch}
 use Rattle.tm_model.specs.State.{State}
@@ -13,16 +15,18 @@ use Rattle.tm_pair.specs.Views.{ClientView}
 use Rattle.tm_pair.specs.Calls.{Gets}
 use Rattle.tm_client.specs.declared.lane.Lane.{Lane}
 use Rattle.tm_client.specs.declared.books.Books.{Books}
-use Rattle.tm_client.specs.Lanes.{asks_in, out_requests, out_room, bringing, IsAccepted, unanswered, IsLane}
-use Rattle.tm_client.specs.Clients.{listed, come_of, entrusted_in, given, brought_in, lane_coming, lanes_coming, lanes_unanswered, lanes_counting, IsTakeable, IsClient}
+use Rattle.tm_client.specs.Lanes.{asks_in, out_requests, out_room, bringing, IsAccepted, name_of, names_of, unanswered, IsLane}
+use Rattle.tm_client.specs.Listing.{listed, held_count}
+use Rattle.tm_client.specs.Clients.{come_of, entrusted_in, given, brought_in, lane_coming, lanes_coming, lanes_unanswered, lanes_counting, IsTakeable, IsClient}
 use Rattle.tm_client.specs.Turns.{arrivals_of, gifts_from}
 use Rattle.tm_client.specs.SideLaws.{Brings}
 use Rattle.tm_client.specs.Receiving.{HasReceived}
 use Rattle.tm_client.proofs.Elements.{set_cases, total_set}
-use Rattle.tm_client.proofs.Accepting.{bringing-append}
+use Rattle.tm_client.proofs.Accepting.{bringing-append, as_many_wait}
+use Rattle.tm_client.proofs.Moving.{nothing_left}
 use Rattle.tm_client.proofs.Arriving.{Arrives, arrives, none_arrives, asks_bring, no_bye_asks, bye_behind, given-append, given_here, given_elsewhere, gifts_all, gifts_many, come_of-append, brought_in-append, entrusted_in-append}
 
-none_left : {X : Type 0} (xs : List X) → length xs ≡ 0 → xs ≡ []
+pub none_left : {X : Type 0} (xs : List X) → length xs ≡ 0 → xs ≡ []
 none_left [] e = refl
 none_left (x ∷ xs) e = absurd (omega (arith, e))
 
@@ -47,6 +51,13 @@ module _ {V C D O R T : Type 0} (view : D → ClientView V O R T) (openings : �
   was : IsLane view (openings t) old.number (come_of t old.arrived.items) lane
   was = is.lanes t lane h.of_lane
 
+  after_each : length lane.afters.items ≡ length (unanswered view lane)
+  after_each = as_many_wait view (openings t) old.number (come_of t old.arrived.items) lane was
+
+  -- the names of what is out come first
+  names_are : names_of lane.afters.items ≡ map name_of (asks_in (out_requests (view lane.side).out)) ++ map name_of lane.waits.items
+  names_are = was.names ∙ map-append name_of (asks_in (out_requests (view lane.side).out)) lane.waits.items
+
   -- with a Bye out nothing counts
   bye_alone : has_bye (out_requests (view lane.side).out) ≡ true → length (unanswered view lane) ≡ 0
   bye_alone bye =
@@ -60,14 +71,15 @@ module _ {V C D O R T : Type 0} (view : D → ClientView V O R T) (openings : �
       elim (bool_cases (has_bye (out_requests (view lane.side).out))) [
         | inl bye ↦
             let none = none_asked_of (asks_in (out_requests (view lane.side).out)) lane.waits.items (bye_alone bye) in
-            let empty = none_left lane.afters.items (was.afters ∙ bye_alone bye) in
+            let empty = none_left lane.afters.items (after_each ∙ bye_alone bye) in
             subst (λ ks. Arrives t (length old.lanes.items) (out_requests (view lane.side).out) ks a.answers.items) (sym empty)
             (none_arrives t (length old.lanes.items) (out_requests (view lane.side).out) a.answers.items none)
         | inr none ↦
             let asks = ap length (no_bye_asks (out_requests (view lane.side).out) none) in
             let joined = length-append (asks_in (out_requests (view lane.side).out)) lane.waits.items in
-            let afters = was.afters in
-            arrives t (length old.lanes.items) (out_requests (view lane.side).out) lane.afters.items a.answers.items within brings.fits same brings.bring none
+            let afters = after_each in
+            arrives t (length old.lanes.items) (out_requests (view lane.side).out) lane.afters.items a.answers.items (map name_of lane.waits.items)
+            (names_are ∙ ap (λ l. map name_of l ++ map name_of lane.waits.items) (no_bye_asks (out_requests (view lane.side).out) none)) within brings.fits same brings.bring none
             (subst (AllByRecursion IsAccepted) (no_bye_asks (out_requests (view lane.side).out) none) was.out_accepted)
             (omega (arith, asks, joined, afters))
       ]
@@ -79,23 +91,21 @@ module _ {V C D O R T : Type 0} (view : D → ClientView V O R T) (openings : �
   split : length (unanswered view lane) ≡ length (asks_in (out_requests (view lane.side).out)) + length lane.waits.items
   split = length-append (asks_in (out_requests (view lane.side).out)) lane.waits.items
 
-  afters_left : length (drop (length a.answers.items) lane.afters.items) ≡ length lane.waits.items
-  afters_left =
+  names_left : names_of (drop (length a.answers.items) lane.afters.items) ≡ map name_of lane.waits.items
+  names_left =
       elim (bool_cases (has_bye (out_requests (view lane.side).out))) [
         | inl bye ↦
-            let none = bye_alone bye in
-            let empty = none_left lane.afters.items (was.afters ∙ none) in
-            let dropped = length-drop (length a.answers.items) lane.afters.items in
-            let afters = was.afters in
+            let empty = none_left lane.afters.items (after_each ∙ bye_alone bye) in
             let all = split in
-            omega (arith, none, dropped, afters, all)
+            let nothing = none_left lane.waits.items (let none = bye_alone bye in omega (arith, none, all)) in
+            ap (λ l. names_of (drop (length a.answers.items) l)) empty ∙ ap names_of (nothing_left (length a.answers.items)) ∙ sym (ap (map name_of) nothing)
         | inr none ↦
-            let asks = ap length (no_bye_asks (out_requests (view lane.side).out) none) in
-            let dropped = length-drop (length a.answers.items) lane.afters.items in
-            let afters = was.afters in
-            let all = split in
-            let many = same in
-            omega (arith, asks, dropped, afters, all, many)
+            let asks = no_bye_asks (out_requests (view lane.side).out) none in
+            let many : length a.answers.items ≡ length (map name_of (asks_in (out_requests (view lane.side).out))) =
+            same ∙ sym (ap length asks) ∙ sym (length-map (asks_in (out_requests (view lane.side).out)) name_of) in
+            sym (drop-map (λ w. w.name) (length a.answers.items) lane.afters.items) ∙ ap (drop (length a.answers.items)) names_are
+            ∙ ap (λ n. drop n (map name_of (asks_in (out_requests (view lane.side).out)) ++ map name_of lane.waits.items)) many
+            ∙ drop-append_seam (map name_of (asks_in (out_requests (view lane.side).out))) (map name_of lane.waits.items)
       ]
 
   here_now : come_of t new.arrived.items ≡ come_of t old.arrived.items + length (asks_in (out_requests (view lane.side).out))
@@ -111,7 +121,7 @@ module _ {V C D O R T : Type 0} (view : D → ClientView V O R T) (openings : �
     client = was.client;
     waits_room = rw h.waits was.waits_room;
     afters_room = h.afters_room ∙ was.afters_room;
-    afters = ap length h.afters ∙ afters_left ∙ ap length (sym now_waits);
+    names = ap names_of h.afters ∙ names_left ∙ ap (map name_of) (sym now_waits);
     counting =
         let before = was.counting in
         let counts = h.counting in
@@ -149,7 +159,7 @@ module _ {V C D O R T : Type 0} (view : D → ClientView V O R T) (openings : �
       )
 
   becomes_holds : (id : ℕ)
-      → listed t id old.held.items + (entrusted_in t id new.arrived.items + given t id new.gifts.items) + gave id ((view becomes.side).sent ++ becomes.waits.items)
+      → listed t id old.held + (entrusted_in t id new.arrived.items + given t id new.gifts.items) + gave id ((view becomes.side).sent ++ becomes.waits.items)
       ≡ came (openings t) old.number (view becomes.side).sent (view becomes.side).got id
   becomes_holds id =
       let before = is.holds t lane id h.of_lane in
@@ -166,7 +176,7 @@ module _ {V C D O R T : Type 0} (view : D → ClientView V O R T) (openings : �
       omega (arith, before, joined, brought, arrived, more, here, gifts, came_here, old_place, new_place, sent)
 
   other_holds : (u : ℕ) (other : Lane V C D O R T) (id : ℕ) → u ≢ t → slice_get old.lanes.items u ≡ Some other
-      → listed u id old.held.items + (entrusted_in u id new.arrived.items + given u id new.gifts.items) + gave id ((view other.side).sent ++ other.waits.items)
+      → listed u id old.held + (entrusted_in u id new.arrived.items + given u id new.gifts.items) + gave id ((view other.side).sent ++ other.waits.items)
       ≡ came (openings u) old.number (view other.side).sent (view other.side).got id
   other_holds u other id ne there =
       let before = is.holds u other id there in
@@ -179,7 +189,7 @@ module _ {V C D O R T : Type 0} (view : D → ClientView V O R T) (openings : �
       omega (arith, before, joined, none, arrived, more, nothing, gifts)
 
   holds_are : (u : ℕ) (other : Lane V C D O R T) (id : ℕ) → slice_get new.lanes.items u ≡ Some other
-      → listed u id new.held.items + (entrusted_in u id new.arrived.items + given u id new.gifts.items) + gave id ((view other.side).sent ++ other.waits.items)
+      → listed u id new.held + (entrusted_in u id new.arrived.items + given u id new.gifts.items) + gave id ((view other.side).sent ++ other.waits.items)
       ≡ came (openings u) new.number (view other.side).sent (view other.side).got id
   holds_are u other id e =
       rw (h.number, h.held) (
@@ -245,7 +255,7 @@ module _ {V C D O R T : Type 0} (view : D → ClientView V O R T) (openings : �
         let now = h.coming in
         let room = was.room in
         let most = h.most in
-        let held = ap (λ v. length v.items) h.held in
+        let held = ap held_count h.held in
         omega (arith, before, now, room, most, held, fits);
     arrived =
         rw (h.arrived, as_many)

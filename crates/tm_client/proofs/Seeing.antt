@@ -11,7 +11,8 @@ use Rattle.tm_pair.specs.Sides.{IsGoodClient}
 use Rattle.tm_pair.specs.Theory.{Theory}
 use Rattle.tm_client.specs.declared.lane.Lane.{Lane}
 use Rattle.tm_client.specs.declared.books.Books.{Books}
-use Rattle.tm_client.specs.Clients.{listed, IsClient}
+use Rattle.tm_client.specs.Listing.{listed}
+use Rattle.tm_client.specs.Clients.{IsClient}
 use Rattle.tm_client.specs.Turns.{Sees}
 use Rattle.tm_client.proofs.Living.{sent_is, answers_are, answers_fitting, live}
 
@@ -19,7 +20,7 @@ module _ {V C D O R T Table Owner : Type 0} (theory : Theory V O R T Table D Own
     (lane : Lane V C D O R T) (books : Books V C D O R T) (is : IsClient theory.client_view openings books)
     (there : slice_get books.lanes.items t ≡ Some lane) (good : IsGoodClient kind (openings t) (theory.client_view lane.side)) where
   -- until the Bye each id that the client's list names is live and held in the state that the seen log leaves
-  listed_is_live : (id : ℕ) → has_bye (theory.client_view lane.side).sent ≡ false → 1 ≤ listed t id books.held.items
+  listed_is_live : (id : ℕ) → has_bye (theory.client_view lane.side).sent ≡ false → 1 ≤ listed t id books.held
       → IsHeld (state_after kind (openings t) (theory.client_view lane.side).seen) (theory.client_view lane.side).place id
   listed_is_live id none some =
       let side = theory.client_view lane.side in

@@ -1,5 +1,5 @@
 -- A client that published what was due stays a client.
-use Rattle.std.proofs.Common.{◌≡◌, ◌≢◌, ℕ, ◌+◌, ◌<◌, true, false, List, [], ◌∷◌, ◌++◌, length, inl, inr, refl, sym, ◌∙◌, ap, subst, arith, append_assoc, append-nil, length-append, length-set}
+use Rattle.std.proofs.Common.{◌≡◌, ◌≢◌, ℕ, ◌+◌, ◌<◌, true, false, List, [], ◌∷◌, ◌++◌, length, map, inl, inr, refl, sym, ◌∙◌, ap, subst, arith, append_assoc, append-nil, length-append, length-set}
 use Rattle.std.specs.Prelude.{slice_get}
 use Rattle.std.specs.List.{AllByRecursion}
 use Rattle.std.specs.declared.option.Option.TheVariants.{None, Some}
@@ -16,8 +16,9 @@ use Rattle.tm_pair.specs.Sides.{IsGoodClient}
 use Rattle.tm_pair.specs.Calls.{MaySend, Publishes}
 use Rattle.tm_client.specs.declared.lane.Lane.{Lane}
 use Rattle.tm_client.specs.declared.books.Books.{Books}
-use Rattle.tm_client.specs.Lanes.{asks_in, out_requests, out_room, bringing, IsAccepted, AreHeld, unanswered, IsLane}
-use Rattle.tm_client.specs.Clients.{listed, come_of, entrusted_in, given, brought_in, lane_coming, lanes_coming, lanes_unanswered, lanes_counting, IsClient}
+use Rattle.tm_client.specs.Lanes.{asks_in, out_requests, out_room, bringing, IsAccepted, AreHeld, name_of, names_of, unanswered, IsLane}
+use Rattle.tm_client.specs.Listing.{listed}
+use Rattle.tm_client.specs.Clients.{come_of, entrusted_in, given, brought_in, lane_coming, lanes_coming, lanes_unanswered, lanes_counting, IsClient}
 use Rattle.tm_client.specs.Sending.{HasGone}
 use Rattle.tm_client.proofs.Elements.{set_cases, total_set}
 use Rattle.tm_client.proofs.Arriving.{no_bye_asks}
@@ -174,7 +175,7 @@ module _ {V C D O R T : Type 0} (kind : Kind V O R T) (view : D → ClientView V
     client = was.client;
     waits_room = h.waits_room ∙ was.waits_room;
     afters_room = rw h.afters was.afters_room;
-    afters = ap (λ l. length l.items) h.afters ∙ was.afters ∙ ap length before ∙ sym (ap length went.unanswered_is);
+    names = ap (λ l. names_of l.items) h.afters ∙ was.names ∙ ap (map name_of) before ∙ sym (ap (map name_of) went.unanswered_is);
     counting =
         let counts = h.counting in
         let all = was.counting in
@@ -204,7 +205,7 @@ module _ {V C D O R T : Type 0} (kind : Kind V O R T) (view : D → ClientView V
       )
 
   becomes_holds : (id : ℕ)
-      → listed t id old.held.items + (entrusted_in t id old.arrived.items + given t id old.gifts.items) + gave id ((view becomes.side).sent ++ becomes.waits.items)
+      → listed t id old.held + (entrusted_in t id old.arrived.items + given t id old.gifts.items) + gave id ((view becomes.side).sent ++ becomes.waits.items)
       ≡ came (openings t) old.number (view becomes.side).sent (view becomes.side).got id
   becomes_holds id =
       let all = is.holds t lane id h.of_lane in
@@ -215,7 +216,7 @@ module _ {V C D O R T : Type 0} (kind : Kind V O R T) (view : D → ClientView V
       omega (arith, all, same_came, same_gave, old_place, new_place)
 
   holds_are : (u : ℕ) (other : Lane V C D O R T) (id : ℕ) → slice_get new.lanes.items u ≡ Some other
-      → listed u id new.held.items + (entrusted_in u id new.arrived.items + given u id new.gifts.items) + gave id ((view other.side).sent ++ other.waits.items)
+      → listed u id new.held + (entrusted_in u id new.arrived.items + given u id new.gifts.items) + gave id ((view other.side).sent ++ other.waits.items)
       ≡ came (openings u) new.number (view other.side).sent (view other.side).got id
   holds_are u other id e =
       rw (h.number, h.held, h.arrived, h.gifts) (

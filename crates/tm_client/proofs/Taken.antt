@@ -1,24 +1,28 @@
 -- A client that hands out the first of what arrived.
-use Rattle.std.proofs.Common.{◌≡◌, ◌≢◌, ℕ, ◌+◌, ◌<◌, ◌≤◌, ◌==◌, cond, Bool, List, [], ◌∷◌, ◌++◌, length, inl, inr, refl, sym, ◌∙◌, ap, subst, arith, length-append, length-set, eq-eqb, ne_eqb}
-use Rattle.std.specs.Prelude.{◌-◌, drop, slice_get, vec_capacity}
+use Rattle.std.proofs.Common.{◌≡◌, ◌≢◌, ℕ, ◌+◌, ◌<◌, ◌≤◌, ◌==◌, cond, Bool, List, [], ◌∷◌, ◌++◌, length, inl, inr, refl, sym, ◌∙◌, ap, subst, arith, length-set, eq-eqb, ne_eqb}
+use Rattle.std.specs.Prelude.{◌-◌, drop, slice_get}
 use Rattle.std.specs.List.{AllByRecursion}
 use Rattle.std.specs.declared.option.Option.TheVariants.{Some}
 use Rattle.std.proofs.lemmas.Option.{slice_get_within}
+use Rattle.tm_batch.specs.declared.message.Name.{Name}
 use Rattle.tm_batch.specs.declared.message.Answer.{Answer}
 use Rattle.tm_batch.specs.declared.message.Answer.TheVariants.{Entrusted, NotEntrusted, Replied, Launched, TicketsSpent, Granted, Gone, GiftsFull, Released, Reclaimed, Shared, ByeDone}
 use Rattle.tm_model.specs.State.{State}
 use Rattle.tm_model.specs.Holds.{gave, came}
-use Rattle.tm_core.proofs.CallerLemmas.{all-append}
 use Rattle.tm_pair.specs.Views.{ClientView}
 use Rattle.tm_client.specs.declared.lane.Lane.{Lane}
-use Rattle.tm_client.specs.declared.trust.Hold.{Hold}
+use Rattle.tm_client.specs.declared.holds.Hold.{Hold}
+use Rattle.tm_client.specs.declared.holds.Holds.{Holds}
+use Rattle.tm_client.specs.declared.trust.Trust.{Trust}
 use Rattle.tm_client.specs.declared.answers.Arrival.{Arrival}
 use Rattle.tm_client.specs.declared.answers.Got.{Got}
 use Rattle.tm_client.specs.declared.books.Books.{Books}
+use Rattle.tm_client.specs.Listing.{hold_of, is_at, listed, held_count, room_for, held_at}
 use Rattle.tm_client.specs.Lanes.{unanswered, IsLane}
-use Rattle.tm_client.specs.Clients.{listed, brings, entrusted, come_of, entrusted_in, given, brought_in, IsTakeable, lane_coming, lanes_coming, lanes_unanswered, lanes_counting, IsClient}
-use Rattle.tm_client.specs.Taking.{holds_by, CountsLess, HasTaken}
+use Rattle.tm_client.specs.Clients.{brings, entrusted, come_of, entrusted_in, given, brought_in, IsTakeable, lane_coming, lanes_coming, lanes_unanswered, lanes_counting, IsClient}
+use Rattle.tm_client.specs.Taking.{IsListed, IsGot, CountsLess, HasTaken}
 use Rattle.tm_client.proofs.Elements.{set_cases, total_set}
+use Rattle.tm_client.proofs.Listed.{gains_listed, gains_all}
 
 pub first_rest : {X : Type 0} (xs : List X) (x : X) → slice_get xs 0 ≡ Some x → (rest : List X) × (xs ≡ x ∷ rest)
 first_rest [] x e = absurd cc
@@ -40,53 +44,48 @@ one_at t = ap counted (eq-eqb t t refl)
 none_at : (t u : ℕ) → t ≢ u → counted (t == u) ≡ 0
 none_at t u other = ap counted (ne_eqb t u other)
 
-pub listed-append : (t id : ℕ) (xs ys : List Hold) → listed t id (xs ++ ys) ≡ listed t id xs + listed t id ys
-listed-append t id [] ys = omega arith
-listed-append t id (h ∷ xs) ys = let more = listed-append t id xs ys in omega (arith, more)
+-- what comes with the answer of trustee t to a request of this name, once it is taken
+pub record Comes {V O R T : Type 0} (t : ℕ) (name : Name) (a : Answer V O R T) (old new : Holds) : Type 0 where
+  pub listed_is : (u id : ℕ) → listed u id new ≡ listed u id old + entrusted u id t name a
+  pub count : held_count new ≤ held_count old + brings a
+  pub standing : (n : ℕ) → t < n → ((at : ℕ) (h : Hold) → held_at old at ≡ Some h → h.trustee < n)
+      → (at : ℕ) (h : Hold) → held_at new at ≡ Some h → h.trustee < n
+  pub room : room_for new ≡ room_for old
 
 module _ {V O R T : Type 0} where
-  -- a client's list gets what the answer brings
-  listed_by : (u id t : ℕ) (a : Answer V O R T) → listed u id (holds_by t a) ≡ entrusted u id t a
-  listed_by u id t (Entrusted n) = omega arith
-  listed_by u id t (NotEntrusted refusal v) = refl
-  listed_by u id t (Replied r) = refl
-  listed_by u id t (Launched ticket) = refl
-  listed_by u id t (TicketsSpent task) = refl
-  listed_by u id t Granted = refl
-  listed_by u id t Gone = refl
-  listed_by u id t GiftsFull = refl
-  listed_by u id t Released = refl
-  listed_by u id t (Reclaimed v) = refl
-  listed_by u id t Shared = refl
-  listed_by u id t ByeDone = refl
+  none_comes : (t : ℕ) (name : Name) (a : Answer V O R T) (old new : Holds) → ((u id : ℕ) → entrusted u id t name a ≡ 0) → new ≡ old → Comes t name a old new
+  none_comes t name a old new none same = record {
+    listed_is = λ u id. let all = ap (listed u id) same in let zero = none u id in omega (arith, all, zero);
+    count = let all = ap held_count same in omega (arith, all);
+    standing = λ n lt all at h e. all at h (ap (λ held. held_at held at) (sym same) ∙ e);
+    room = ap room_for same;
+  }
 
-  few : (t : ℕ) (a : Answer V O R T) → length (holds_by t a) ≤ brings a
-  few t (Entrusted n) = omega arith
-  few t (NotEntrusted refusal v) = omega arith
-  few t (Replied r) = omega arith
-  few t (Launched ticket) = omega arith
-  few t (TicketsSpent task) = omega arith
-  few t Granted = omega arith
-  few t Gone = omega arith
-  few t GiftsFull = omega arith
-  few t Released = omega arith
-  few t (Reclaimed v) = omega arith
-  few t Shared = omega arith
-  few t ByeDone = omega arith
+  one_comes : (t c : ℕ) (asked name : Name) (a : Answer V O R T) (trust : Trust) (old new : Holds)
+      → ((u id : ℕ) → entrusted u id t name a ≡ is_at u id t asked.id) → 1 ≤ brings a → IsListed t c asked trust old new → Comes t name a old new
+  one_comes t c asked name a trust old new one bring is = record {
+    listed_is = λ u id.
+        let gains = gains_listed u id (hold_of t asked) trust.at old new is.gains in
+        let by = one u id in
+        omega (arith, gains, by);
+    count = let count = is.gains.count in omega (arith, count, bring);
+    standing = λ n lt all. gains_all (λ h. h.trustee < n) (hold_of t asked) trust.at old new is.gains lt all;
+    room = is.gains.room;
+  }
 
-  all_of : (n t : ℕ) (a : Answer V O R T) → t < n → AllByRecursion (λ h. h.trustee < n) (holds_by t a)
-  all_of n t (Entrusted name) lt = (lt, tt)
-  all_of n t (NotEntrusted refusal v) lt = tt
-  all_of n t (Replied r) lt = tt
-  all_of n t (Launched ticket) lt = tt
-  all_of n t (TicketsSpent task) lt = tt
-  all_of n t Granted lt = tt
-  all_of n t Gone lt = tt
-  all_of n t GiftsFull lt = tt
-  all_of n t Released lt = tt
-  all_of n t (Reclaimed v) lt = tt
-  all_of n t Shared lt = tt
-  all_of n t ByeDone lt = tt
+  comes : (t c : ℕ) (name : Name) (a : Answer V O R T) (got : Got V O R T) (old new : Holds) → IsGot t c name a got old new → Comes t name a old new
+  comes t c name (Entrusted n) got old new (trust, is, listed) = one_comes t c n name (Entrusted n) trust old new (λ u id. refl) (omega arith) listed
+  comes t c name (NotEntrusted refusal v) got old new h = none_comes t name (NotEntrusted refusal v) old new (λ u id. refl) h.1
+  comes t c name (Replied r) got old new h = none_comes t name (Replied r) old new (λ u id. refl) h.1
+  comes t c name (Launched ticket) got old new h = absurd h
+  comes t c name (TicketsSpent task) got old new h = absurd h
+  comes t c name Granted got old new h = none_comes t name Granted old new (λ u id. refl) h.1
+  comes t c name Gone got old new h = none_comes t name Gone old new (λ u id. refl) h.1
+  comes t c name GiftsFull got old new h = none_comes t name GiftsFull old new (λ u id. refl) h.1
+  comes t c name Released got old new h = none_comes t name Released old new (λ u id. refl) h.1
+  comes t c name (Reclaimed v) got old new h = none_comes t name (Reclaimed v) old new (λ u id. refl) h.1
+  comes t c name Shared got old new (trust, is, listed) = one_comes t c name name Shared trust old new (λ u id. refl) (omega arith) listed
+  comes t c name ByeDone got old new h = absurd h
 
 module _ {V C D O R T : Type 0} (view : D → ClientView V O R T) where
   -- a lane of which one answer was taken
@@ -98,7 +97,7 @@ module _ {V C D O R T : Type 0} (view : D → ClientView V O R T) where
     client = is.client;
     waits_room = rw h.waits is.waits_room;
     afters_room = rw h.afters is.afters_room;
-    afters = rw (h.side, h.waits, h.afters) is.afters;
+    names = rw (h.side, h.waits, h.afters) is.names;
     counting = rw (h.side, h.waits) (let was = is.counting in let now = h.counting in omega arith);
     window = let was = is.window in let now = h.counting in omega arith;
     out = h.out ∙ rw h.side is.out;
@@ -148,13 +147,15 @@ module _ {V C D O R T : Type 0} (view : D → ClientView V O R T) where
         ]
         )
 
+    by_answer : Comes a.t a.name a.answer old.held new.held
+    by_answer = comes a.t old.number a.name a.answer got old.held new.held a.is_got
+
     moved : (u id : ℕ)
-        → listed u id new.held.items + (entrusted_in u id new.arrived.items + given u id new.gifts.items)
-        ≡ listed u id old.held.items + (entrusted_in u id old.arrived.items + given u id old.gifts.items)
+        → listed u id new.held + (entrusted_in u id new.arrived.items + given u id new.gifts.items)
+        ≡ listed u id old.held + (entrusted_in u id old.arrived.items + given u id old.gifts.items)
     moved u id =
         let all = ap (λ xs. entrusted_in u id xs) a.first in
-        let by = listed_by u id a.t a.answer in
-        let held = ap (λ xs. listed u id xs) a.held ∙ listed-append u id old.held.items (holds_by a.t a.answer) in
+        let held = by_answer.listed_is u id in
         let gifts = ap (λ gs. given u id gs.items) a.gifts in
         omega arith
 
@@ -162,12 +163,12 @@ module _ {V C D O R T : Type 0} (view : D → ClientView V O R T) where
     same_waits id = rw (a.counts.side, a.counts.waits) refl
 
     becomes_holds : (id : ℕ)
-        → listed a.t id new.held.items + (entrusted_in a.t id new.arrived.items + given a.t id new.gifts.items) + gave id ((view a.becomes.side).sent ++ a.becomes.waits.items)
+        → listed a.t id new.held + (entrusted_in a.t id new.arrived.items + given a.t id new.gifts.items) + gave id ((view a.becomes.side).sent ++ a.becomes.waits.items)
         ≡ came (openings a.t) old.number (view a.becomes.side).sent (view a.becomes.side).got id
     becomes_holds id = rw (moved a.t id, same_waits id, a.counts.side) (is.holds a.t a.lane id a.of_lane)
 
     holds_are : (u : ℕ) (lane : Lane V C D O R T) (id : ℕ) → slice_get new.lanes.items u ≡ Some lane
-        → listed u id new.held.items + (entrusted_in u id new.arrived.items + given u id new.gifts.items) + gave id ((view lane.side).sent ++ lane.waits.items)
+        → listed u id new.held + (entrusted_in u id new.arrived.items + given u id new.gifts.items) + gave id ((view lane.side).sent ++ lane.waits.items)
         ≡ came (openings u) new.number (view lane.side).sent (view lane.side).got id
     holds_are u lane id e =
         rw a.number (
@@ -206,13 +207,12 @@ module _ {V C D O R T : Type 0} (view : D → ClientView V O R T) where
         omega arith
         )
 
-    most_is : length new.held.items + new.coming ≤ old.most
+    most_is : held_count new.held + new.coming ≤ old.most
     most_is =
         let most = is.most in
         let now = a.coming in
-        let little = few a.t a.answer in
-        let all = ap length a.held ∙ length-append old.held.items (holds_by a.t a.answer) in
-        omega arith
+        let little = by_answer.count in
+        omega (arith, most, now, little)
 
     rest_arrived : AllByRecursion (λ x. (x.trustee < length old.lanes.items) × IsTakeable x.answer) new.arrived.items
     rest_arrived = (subst (λ xs. AllByRecursion (λ x. (x.trustee < length old.lanes.items) × IsTakeable x.answer) xs) a.first is.arrived).1
@@ -222,14 +222,14 @@ module _ {V C D O R T : Type 0} (view : D → ClientView V O R T) where
       lanes = lanes_are;
       clients = λ u lt. is.clients u (subst (λ n. u < n) as_many lt) ∙ sym a.clients;
       holds = holds_are;
-      held = rw (a.held, as_many) (all-append (λ h. h.trustee < length old.lanes.items) old.held.items (holds_by a.t a.answer) is.held (all_of (length old.lanes.items) a.t a.answer within));
+      held = rw as_many (by_answer.standing (length old.lanes.items) within is.held);
       coming = coming_is;
       most = rw a.most most_is;
       limit = rw a.most is.limit;
       arrived = rw as_many rest_arrived;
       gifts = rw (a.gifts, as_many, a.number) is.gifts;
       counting = counting_is;
-      held_room = rw (a.held_room, a.most) is.held_room;
+      held_room = rw (by_answer.room, a.most) is.held_room;
       gifts_room = rw (a.gifts, a.most) is.gifts_room;
       arrived_room = rw (a.capacity, as_many) is.arrived_room;
     }
@@ -239,7 +239,7 @@ module _ {V C D O R T : Type 0} (view : D → ClientView V O R T) where
     pub within : x.trustee < length books.lanes.items
     pub takeable : IsTakeable x.answer
     pub coming : brings x.answer ≤ books.coming
-    pub room : length books.held.items + brings x.answer ≤ vec_capacity books.held
+    pub room : held_count books.held + brings x.answer ≤ room_for books.held
     pub counts : (lane : Lane V C D O R T) → slice_get books.lanes.items x.trustee ≡ Some lane → 1 ≤ lane.counting
 
   pub is_first :

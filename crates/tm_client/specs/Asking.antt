@@ -1,6 +1,5 @@
 -- Which requests a client accepts, and what it keeps of them.
-use Rattle.std.specs.Prelude.{◌≡◌, ℕ, ◌+◌, ◌<◌, ◌≤◌, true, false, length, slice_get, slice_set, IsSomeAnd}
-use Rattle.std.specs.List.{Contains}
+use Rattle.std.specs.Prelude.{◌≡◌, ℕ, ◌+◌, ◌<◌, ◌≤◌, true, false, slice_get, slice_set, IsSomeAnd}
 use Rattle.std.specs.declared.option.Option.TheVariants.{Some}
 use Rattle.tm_batch.specs.declared.limits.TheConstants.{WINDOW}
 use Rattle.tm_batch.specs.declared.message.Request.{Request}
@@ -9,12 +8,13 @@ use Rattle.tm_client.specs.declared.trust.Trust.{Trust}
 use Rattle.tm_client.specs.declared.answers.Why.{Why}
 use Rattle.tm_client.specs.declared.answers.Why.TheVariants.{NotHeld, WindowFull, Closed, TrustsFull, NoClient}
 use Rattle.tm_client.specs.declared.books.Books.{Books}
+use Rattle.tm_client.specs.Listing.{hold_of, held_count, held_at, HasHold, Loses}
 use Rattle.tm_client.specs.Lanes.{HasAccepted}
 
 module _ {V O R T C D : Type 0} where
   -- the client's list has the trust, which names the client
   abbrev pub IsHeldBy : Books V C D O R T → Trust → Type 0
-  IsHeldBy books trust = (trust.client ≡ books.number) × Contains books.held.items (record { trustee = trust.trustee; id = trust.name.id })
+  IsHeldBy books trust = (trust.client ≡ books.number) × HasHold books.held (hold_of trust.trustee trust.name)
 
   -- P holds of what a client keeps for trustee t
   abbrev pub At : Books V C D O R T → ℕ → (Lane V C D O R T → Type 0) → Type 0
@@ -34,9 +34,9 @@ module _ {V O R T C D : Type 0} where
 
   -- the trusts that the client has and those that may come are as many as it may have
   abbrev pub IsAtMost : Books V C D O R T → Type 0
-  IsAtMost books = books.most ≤ length books.held.items + books.coming
+  IsAtMost books = books.most ≤ held_count books.held + books.coming
 
-  -- why a request by a trust is refused: the first of these that holds
+  -- why an operation by a trust, or to give it up, is refused: the first of these that holds
   abbrev pub ApplyWhy : Books V C D O R T → Trust → Why → Type 0
   ApplyWhy books trust NotHeld = ¬ (IsHeldBy books trust)
   ApplyWhy books trust Closed = IsHeldBy books trust × IsClosing books trust.trustee
@@ -85,3 +85,21 @@ module _ {V O R T C D : Type 0} where
     pub lanes : new.lanes.items ≡ slice_set old.lanes.items t becomes
     pub coming : new.coming ≡ old.coming + more
     pub rest : KeepsRest old new
+
+  -- a client took a request by which it gives up a trust, with its continuation, behind those that wait; by it so many trusts more may come.
+  -- The trust left the client's list: the hold at the place that the trust tells, where it stood there
+  pub record HasGivenUp (trust : Trust) (q : Request V O R T) (after : C) (more : ℕ) (old new : Books V C D O R T) : Type 0 where
+    pub lane : Lane V C D O R T
+    pub becomes : Lane V C D O R T
+    pub of_lane : slice_get old.lanes.items trust.trustee ≡ Some lane
+    pub accepts : HasAccepted q after lane becomes
+    pub lanes : new.lanes.items ≡ slice_set old.lanes.items trust.trustee becomes
+    pub coming : new.coming ≡ old.coming + more
+    pub place : ℕ
+    pub told : held_at old.held trust.at ≡ Some (hold_of trust.trustee trust.name) → place ≡ trust.at
+    pub held : Loses (hold_of trust.trustee trust.name) place old.held new.held
+    pub number : new.number ≡ old.number
+    pub clients : new.clients ≡ old.clients
+    pub most : new.most ≡ old.most
+    pub arrived : new.arrived ≡ old.arrived
+    pub gifts : new.gifts ≡ old.gifts

@@ -1,28 +1,21 @@
 -- What a client keeps, and what holds of it between two calls.
-use Rattle.std.specs.Prelude.{◌≡◌, ℕ, ◌+◌, ◌*◌, ◌<◌, ◌≤◌, ◌==◌, cond, List, [], ◌∷◌, ◌++◌, length, slice_get, vec_capacity}
+use Rattle.std.specs.Prelude.{◌≡◌, ℕ, ◌+◌, ◌*◌, ◌<◌, ◌≤◌, ◌==◌, cond, List, [], ◌∷◌, ◌++◌, length, slice_get}
 use Rattle.std.specs.List.{AllByRecursion}
 use Rattle.std.specs.declared.option.Option.TheVariants.{Some}
 use Rattle.tm_batch.specs.declared.limits.TheConstants.{WINDOW, MOST_TRUSTS}
+use Rattle.tm_batch.specs.declared.message.Name.{Name}
 use Rattle.tm_batch.specs.declared.message.Answer.{Answer}
 use Rattle.tm_batch.specs.declared.message.Answer.TheVariants.{Entrusted, NotEntrusted, Launched, TicketsSpent, Reclaimed, Shared, ByeDone}
 use Rattle.tm_model.specs.State.{State}
 use Rattle.tm_model.specs.Holds.{gave, came}
 use Rattle.tm_pair.specs.Views.{ClientView}
 use Rattle.tm_client.specs.declared.lane.Lane.{Lane}
-use Rattle.tm_client.specs.declared.trust.Hold.{Hold}
+use Rattle.tm_client.specs.declared.holds.Hold.{Hold}
 use Rattle.tm_client.specs.declared.trust.Trust.{Trust}
 use Rattle.tm_client.specs.declared.answers.Arrival.{Arrival}
 use Rattle.tm_client.specs.declared.books.Books.{Books}
+use Rattle.tm_client.specs.Listing.{is_at, listed, held_count, room_for, held_at}
 use Rattle.tm_client.specs.Lanes.{unanswered, bringing, out_room, IsLane}
-
--- one where trustee and id are these
-abbrev pub is_at : ℕ → ℕ → ℕ → ℕ → ℕ
-is_at t id trustee named = cond (trustee == t) (cond (named == id) 1 0) 0
-
--- how often a list of trusts has an id of trustee t
-abbrev pub listed : ℕ → ℕ → List Hold → ℕ
-listed t id [] = 0
-listed t id (h ∷ held) = is_at t id h.trustee h.id + listed t id held
 
 -- how many gifts are of an id of trustee t
 abbrev pub given : ℕ → ℕ → List Trust → ℕ
@@ -43,17 +36,17 @@ module _ {V O R T : Type 0} where
   brings Shared = 1
   brings _ = 0
 
-  -- how many holds on an id an answer brings
-  abbrev pub entrusted : ℕ → ℕ → ℕ → Answer V O R T → ℕ
-  entrusted t id trustee (Entrusted n) = is_at t id trustee n.id
-  entrusted t id trustee _ = 0
+  -- how many holds on an id the answer of a trustee to a request of this name brings: that of an object that was taken, or the one that
+  -- was to be given up
+  abbrev pub entrusted : ℕ → ℕ → ℕ → Name → Answer V O R T → ℕ
+  entrusted t id trustee name (Entrusted n) = is_at t id trustee n.id
+  entrusted t id trustee name Shared = is_at t id trustee name.id
+  entrusted t id trustee name _ = 0
 
-  -- an answer that waits to be taken: today none of a launch, of a reclaim, or of a Bye
+  -- an answer that waits to be taken: today none of a launch, and none of a Bye
   abbrev pub IsTakeable : Answer V O R T → Type 0
   IsTakeable (Launched ticket) = ⊥
   IsTakeable (TicketsSpent task) = ⊥
-  IsTakeable (Reclaimed v) = ⊥
-  IsTakeable Shared = ⊥
   IsTakeable ByeDone = ⊥
   IsTakeable _ = Unit {0}
 
@@ -70,7 +63,7 @@ module _ {V O R T C : Type 0} where
 
   abbrev pub entrusted_in : ℕ → ℕ → List (Arrival V C O R T) → ℕ
   entrusted_in t id [] = 0
-  entrusted_in t id (a ∷ arrived) = entrusted t id a.trustee a.answer + entrusted_in t id arrived
+  entrusted_in t id (a ∷ arrived) = entrusted t id a.trustee a.name a.answer + entrusted_in t id arrived
 
 module _ {V O R T C D : Type 0} (view : D → ClientView V O R T) where
   -- how many trusts may come by what a lane sent or lets wait: its entrusts and reclaims, and the room of the batch that is out
@@ -89,7 +82,7 @@ module _ {V O R T C D : Type 0} (view : D → ClientView V O R T) where
 
   -- the trusts that a client has and those that may still come to it, which `TrustsFull` counts
   abbrev pub all_trusts : Books V C D O R T → ℕ
-  all_trusts books = length books.held.items + (lanes_coming books.lanes.items + brought_in books.arrived.items + length books.gifts.items)
+  all_trusts books = held_count books.held + (lanes_coming books.lanes.items + brought_in books.arrived.items + length books.gifts.items)
 
   -- a client at trustees that opened in these states, by their numbers
   pub record IsClient (openings : ℕ → State V O R T) (books : Books V C D O R T) : Type 0 where
@@ -98,16 +91,16 @@ module _ {V O R T C D : Type 0} (view : D → ClientView V O R T) where
     pub clients : (t : ℕ) → t < length books.lanes.items → (openings t).setup.config.clients ≡ books.clients
     -- what it holds at each trustee is what came, less what it gave away and what came and was not taken
     pub holds : (t : ℕ) (lane : Lane V C D O R T) (id : ℕ) → slice_get books.lanes.items t ≡ Some lane
-        → listed t id books.held.items + (entrusted_in t id books.arrived.items + given t id books.gifts.items) + gave id ((view lane.side).sent ++ lane.waits.items)
+        → listed t id books.held + (entrusted_in t id books.arrived.items + given t id books.gifts.items) + gave id ((view lane.side).sent ++ lane.waits.items)
         ≡ came (openings t) books.number (view lane.side).sent (view lane.side).got id
-    pub held : AllByRecursion (λ h. h.trustee < length books.lanes.items) books.held.items
+    pub held : (at : ℕ) (h : Hold) → held_at books.held at ≡ Some h → h.trustee < length books.lanes.items
     pub coming : books.coming ≡ lanes_coming books.lanes.items + brought_in books.arrived.items + length books.gifts.items
-    pub most : length books.held.items + books.coming ≤ books.most
+    pub most : held_count books.held + books.coming ≤ books.most
     pub limit : books.most ≤ MOST_TRUSTS
     pub arrived : AllByRecursion (λ a. (a.trustee < length books.lanes.items) × IsTakeable a.answer) books.arrived.items
     pub gifts : AllByRecursion (λ g. (g.trustee < length books.lanes.items) × (g.client ≡ books.number)) books.gifts.items
     -- all room is reserved
-    pub held_room : books.most ≤ vec_capacity books.held
+    pub held_room : books.most ≤ room_for books.held
     pub gifts_room : books.most ≤ books.gifts.capacity
     pub counting : length books.arrived.items + lanes_unanswered books.lanes.items ≡ lanes_counting books.lanes.items
     pub arrived_room : books.arrived.capacity ≡ WINDOW * length books.lanes.items

@@ -1,16 +1,18 @@
 -- What a client keeps for one trustee, and what holds of it.
-use Rattle.std.specs.Prelude.{◌≡◌, ℕ, ◌+◌, ◌<◌, ◌≤◌, Bool, true, false, List, [], ◌∷◌, ◌++◌, length}
+use Rattle.std.specs.Prelude.{◌≡◌, ℕ, ◌+◌, ◌<◌, ◌≤◌, Bool, true, false, List, [], ◌∷◌, ◌++◌, length, map}
 use Rattle.std.specs.List.{AllByRecursion}
 use Rattle.std.specs.declared.option.Option.{Option}
 use Rattle.std.specs.declared.option.Option.TheVariants.{None, Some}
 use Rattle.tm_batch.specs.declared.limits.TheConstants.{WINDOW}
+use Rattle.tm_batch.specs.declared.message.Name.{Name}
 use Rattle.tm_batch.specs.declared.message.Request.{Request}
-use Rattle.tm_batch.specs.declared.message.Request.TheVariants.{Entrust, Launch, Reclaim, Bye}
+use Rattle.tm_batch.specs.declared.message.Request.TheVariants.{Entrust, Apply, Launch, Grant, Release, Reclaim, Bye}
 use Rattle.tm_model.specs.State.{State}
 use Rattle.tm_model.specs.Holds.{Names, has_bye, launches_in, gave, came}
 use Rattle.tm_model.specs.Orderly.{GrantsBelow}
 use Rattle.tm_pair.specs.Views.{BatchView, ClientView}
 use Rattle.tm_client.specs.declared.lane.Lane.{Lane}
+use Rattle.tm_client.specs.declared.lane.Waiting.{Waiting}
 
 module _ {V O R T : Type 0} where
   -- requests without the Byes, which no caller made
@@ -18,6 +20,16 @@ module _ {V O R T : Type 0} where
   asks_in [] = []
   asks_in (Bye ∷ qs) = asks_in qs
   asks_in (q ∷ qs) = q ∷ asks_in qs
+
+  -- the name that a request has; one of zeros for an entrust and a Bye, which have none
+  abbrev pub name_of : Request V O R T → Name
+  name_of (Apply n op) = n
+  name_of (Launch n task) = n
+  name_of (Grant n d) = n
+  name_of (Release n) = n
+  name_of (Reclaim n) = n
+  name_of (Entrust v) = record { id = 0; place = 0 }
+  name_of Bye = record { id = 0; place = 0 }
 
   -- the requests of the batch that is out
   abbrev pub out_requests : Option (BatchView V O R T) → List (Request V O R T)
@@ -40,10 +52,9 @@ module _ {V O R T : Type 0} where
   bringing (Reclaim n ∷ qs) = 1 + bringing qs
   bringing (_ ∷ qs) = bringing qs
 
-  -- a request that a call of a client accepts today: a launch waits for tickets, a reclaim for its call, and a Bye is the client's own
+  -- a request that a call of a client accepts today: a launch waits for tickets, and a Bye is the client's own
   abbrev pub IsAccepted : Request V O R T → Type 0
   IsAccepted (Launch n task) = ⊥
-  IsAccepted (Reclaim n) = ⊥
   IsAccepted Bye = ⊥
   IsAccepted _ = Unit {0}
 
@@ -53,13 +64,17 @@ module _ {V O R T : Type 0} where
       (before after : List (Request V O R T)) (q : Request V O R T) (id : ℕ) → waits ≡ before ++ q ∷ after → Names q id
       → gave id (side.sent ++ before) < came opening side.place side.sent side.got id
 
+-- the names of the requests whose answers some continuations wait for
+abbrev pub names_of : {C : Type 0} → List (Waiting C) → List Name
+names_of waiting = map (λ w. w.name) waiting
+
 module _ {V O R T C D : Type 0} where
   -- a lane took a request with its continuation behind those that wait
   pub record HasAccepted (q : Request V O R T) (after : C) (old new : Lane V C D O R T) : Type 0 where
     pub side : new.side ≡ old.side
     pub waits : new.waits.items ≡ old.waits.items ++ q ∷ []
     pub waits_room : new.waits.capacity ≡ old.waits.capacity
-    pub afters : new.afters.items ≡ old.afters.items ++ after ∷ []
+    pub afters : new.afters.items ≡ old.afters.items ++ (record { after = after; name = name_of q }) ∷ []
     pub afters_room : new.afters.capacity ≡ old.afters.capacity
     pub counting : new.counting ≡ old.counting + 1
     pub out : new.out ≡ old.out
@@ -67,7 +82,6 @@ module _ {V O R T C D : Type 0} where
     pub fetching : new.fetching ≡ old.fetching
     pub closing : new.closing ≡ old.closing
     pub said : new.said ≡ old.said
-    pub closed : new.closed ≡ old.closed
 
 module _ {V O R T C D : Type 0} (view : D → ClientView V O R T) where
   -- the requests whose answers did not come, in order: those that are out, and those that wait
@@ -84,8 +98,8 @@ module _ {V O R T C D : Type 0} (view : D → ClientView V O R T) where
     pub client : c < opening.setup.config.clients
     pub waits_room : lane.waits.capacity ≡ WINDOW
     pub afters_room : lane.afters.capacity ≡ WINDOW
-    -- there is a continuation for each request whose answer did not come
-    pub afters : length lane.afters.items ≡ length (unanswered lane)
+    -- there is a continuation for each request whose answer did not come, with the name of that request
+    pub names : names_of lane.afters.items ≡ map name_of (unanswered lane)
     -- a request counts until its answer is taken
     pub counting : lane.counting ≡ length (unanswered lane) + came_here
     pub window : lane.counting ≤ WINDOW

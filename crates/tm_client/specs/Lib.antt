@@ -1,7 +1,9 @@
 pub mod Asking
+pub mod Begun
 pub mod Clients
 pub mod Due
 pub mod Lanes
+pub mod Listing
 pub mod Marking
 pub mod Posting
 pub mod Receiving

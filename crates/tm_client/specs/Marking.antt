@@ -18,7 +18,6 @@ module _ {V C D O R T : Type 0} where
     fetching = fetching;
     closing = closing;
     said = lane.said;
-    closed = lane.closed;
   }
 
   -- the notes of the lane of trustee t became what `fetching` and `closing` say, and nothing else changed

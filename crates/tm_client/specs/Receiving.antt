@@ -1,5 +1,5 @@
 -- What a client keeps of what came of a trustee.
-use Rattle.std.specs.Prelude.{◌≡◌, ℕ, ◌+◌, false, ◌++◌, length, drop, slice_get, slice_set}
+use Rattle.std.specs.Prelude.{◌≡◌, ℕ, ◌+◌, ◌≤◌, false, ◌++◌, length, min, drop, slice_get, slice_set}
 use Rattle.std.specs.declared.option.Option.TheVariants.{Some}
 use Rattle.tm_batch.specs.declared.message.AnswerBatch.{AnswerBatch}
 use Rattle.tm_client.specs.declared.lane.Lane.{Lane}
@@ -7,6 +7,13 @@ use Rattle.tm_client.specs.declared.books.Books.{Books}
 use Rattle.tm_client.specs.Turns.{arrivals_of, gifts_from}
 
 module _ {V O R T C D : Type 0} where
+  -- there is room for the answers a: for the arrivals of what was out, and for the gifts, which are no more than the batch had room for
+  pub record MayReceive (a : AnswerBatch V O R T) (lane : Lane V C D O R T) (books : Books V C D O R T) : Type 0 where
+    pub arrived : length books.arrived.items + min (length a.answers.items) (length lane.afters.items) ≤ books.arrived.capacity
+    pub gifts : length books.gifts.items + length a.gifts.items ≤ books.gifts.capacity
+    pub fit : length a.gifts.items ≤ lane.room
+    pub coming : lane.room ≤ books.coming
+
   -- the answers a of trustee t were taken in: each continuation of what was out arrives with the answer to its own request, behind what
   -- arrived before, and so do the gifts
   pub record HasReceived (t : ℕ) (a : AnswerBatch V O R T) (lane becomes : Lane V C D O R T) (old new : Books V C D O R T) : Type 0 where
@@ -30,3 +37,10 @@ module _ {V O R T C D : Type 0} where
     pub number : new.number ≡ old.number
     pub clients : new.clients ≡ old.clients
     pub most : new.most ≡ old.most
+
+  -- the answers a of trustee t were taken in, and the side there stays
+  pub record HasTakenIn (t : ℕ) (a : AnswerBatch V O R T) (old new : Books V C D O R T) : Type 0 where
+    pub lane : Lane V C D O R T
+    pub becomes : Lane V C D O R T
+    pub side : becomes.side ≡ lane.side
+    pub received : HasReceived t a lane becomes old new

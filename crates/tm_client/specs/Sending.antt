@@ -1,10 +1,11 @@
 -- What a client keeps of a batch that it published.
-use Rattle.std.specs.Prelude.{◌≡◌, ℕ, ◌+◌, ◌≤◌, ◌⊎◌, true, false, List, [], ◌∷◌, ◌++◌, length, slice_get, slice_set}
+use Rattle.std.specs.Prelude.{◌≡◌, ℕ, ◌+◌, ◌≤◌, ◌⊎◌, true, false, List, [], ◌∷◌, ◌++◌, slice_get, slice_set}
 use Rattle.std.specs.declared.option.Option.TheVariants.{Some}
 use Rattle.tm_batch.specs.declared.message.Request.{Request}
 use Rattle.tm_batch.specs.declared.message.Request.TheVariants.{Bye}
 use Rattle.tm_client.specs.declared.lane.Lane.{Lane}
 use Rattle.tm_client.specs.declared.books.Books.{Books}
+use Rattle.tm_client.specs.Listing.{held_count}
 
 module _ {V O R T C D : Type 0} where
   -- b goes of a lane: the front of what waits, or a Bye where nothing waits or counts and the lane is closing
@@ -26,7 +27,7 @@ module _ {V O R T C D : Type 0} where
     pub out : becomes.out ≡ true
     pub room_of : becomes.room ≡ room
     pub coming : new.coming ≡ old.coming + room
-    pub fits : length old.held.items + (old.coming + room) ≤ old.most
+    pub fits : held_count old.held + (old.coming + room) ≤ old.most
     pub arrived : new.arrived ≡ old.arrived
     pub gifts : new.gifts ≡ old.gifts
     pub held : new.held ≡ old.held

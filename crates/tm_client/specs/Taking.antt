@@ -1,37 +1,39 @@
 -- What a client hands out of what came.
-use Rattle.std.specs.Prelude.{◌≡◌, ℕ, ◌+◌, List, [], ◌∷◌, ◌++◌, length, slice_get, slice_set, vec_capacity}
+use Rattle.std.specs.Prelude.{◌≡◌, ℕ, ◌+◌, ◌∷◌, slice_get, slice_set}
 use Rattle.std.specs.declared.option.Option.TheVariants.{Some}
 use Rattle.tm_batch.specs.declared.message.Name.{Name}
 use Rattle.tm_batch.specs.declared.message.Answer.{Answer}
-use Rattle.tm_batch.specs.declared.message.Answer.TheVariants.{Entrusted, NotEntrusted, Replied, Granted, Gone, GiftsFull, Released}
+use Rattle.tm_batch.specs.declared.message.Answer.TheVariants.{Entrusted, NotEntrusted, Replied, Granted, Gone, GiftsFull, Released, Reclaimed, Shared}
 use Rattle.tm_client.specs.declared.lane.Lane.{Lane}
-use Rattle.tm_client.specs.declared.trust.Hold.{Hold}
+use Rattle.tm_client.specs.declared.holds.Holds.{Holds}
 use Rattle.tm_client.specs.declared.trust.Trust.{Trust}
 use Rattle.tm_client.specs.declared.answers.Got.{Got}
-use Rattle.tm_client.specs.declared.answers.Got.TheVariants.{Entrusted as TrustOf, NotEntrusted as Back, Replied as ReplyOf, Granted as IsGranted, Gone as IsGone, GiftsFull as AreFull, Released as IsReleased}
+use Rattle.tm_client.specs.declared.answers.Got.TheVariants.{Entrusted as TrustOf, NotEntrusted as Back, Replied as ReplyOf, Granted as IsGranted, Gone as IsGone, GiftsFull as AreFull, Released as IsReleased, Reclaimed as ValueOf, Shared as StillOf}
 use Rattle.tm_client.specs.declared.books.Books.{Books}
+use Rattle.tm_client.specs.Listing.{hold_of, Gains}
 use Rattle.tm_client.specs.Clients.{brings}
 
--- what a client's list of trusts says of one that it takes
-abbrev pub hold_of : ℕ → Name → Hold
-hold_of t name = record { trustee = t; id = name.id }
-
--- what the list gets by an answer
-abbrev pub holds_by : {V O R T : Type 0} → ℕ → Answer V O R T → List Hold
-holds_by t (Entrusted n) = hold_of t n ∷ []
-holds_by t _ = []
+-- a trust of this name of trustee t stands in the list of client c at the place that it tells, and did not before
+pub record IsListed (t c : ℕ) (asked : Name) (trust : Trust) (old new : Holds) : Type 0 where
+  pub trustee : trust.trustee ≡ t
+  pub name : trust.name ≡ asked
+  pub client : trust.client ≡ c
+  pub gains : Gains (hold_of t asked) trust.at old new
 
 module _ {V O R T : Type 0} where
-  -- what is handed out for an answer of trustee t to client c, whose list had so many trusts
-  abbrev pub IsGot : ℕ → ℕ → ℕ → Answer V O R T → Got V O R T → Type 0
-  IsGot t c at (Entrusted n) got = got ≡ TrustOf (record { trustee = t; name = n; client = c; at = at })
-  IsGot t c at (NotEntrusted refusal v) got = got ≡ Back refusal v
-  IsGot t c at (Replied r) got = got ≡ ReplyOf r
-  IsGot t c at Granted got = got ≡ IsGranted
-  IsGot t c at Gone got = got ≡ IsGone
-  IsGot t c at GiftsFull got = got ≡ AreFull
-  IsGot t c at Released got = got ≡ IsReleased
-  IsGot t c at _ got = ⊥
+  -- what is handed out for the answer of trustee t to a request of this name of client c, and what the client's list becomes: it has the
+  -- trust that is handed out, and is as it was where none is
+  abbrev pub IsGot : ℕ → ℕ → Name → Answer V O R T → Got V O R T → Holds → Holds → Type 0
+  IsGot t c asked (Entrusted n) got old new = (trust : Trust) × (got ≡ TrustOf trust) × IsListed t c n trust old new
+  IsGot t c asked (NotEntrusted refusal v) got old new = (got ≡ Back refusal v) × (new ≡ old)
+  IsGot t c asked (Replied r) got old new = (got ≡ ReplyOf r) × (new ≡ old)
+  IsGot t c asked Granted got old new = (got ≡ IsGranted) × (new ≡ old)
+  IsGot t c asked Gone got old new = (got ≡ IsGone) × (new ≡ old)
+  IsGot t c asked GiftsFull got old new = (got ≡ AreFull) × (new ≡ old)
+  IsGot t c asked Released got old new = (got ≡ IsReleased) × (new ≡ old)
+  IsGot t c asked (Reclaimed v) got old new = (got ≡ ValueOf v) × (new ≡ old)
+  IsGot t c asked Shared got old new = (trust : Trust) × (got ≡ StillOf trust) × IsListed t c asked trust old new
+  IsGot t c asked _ got old new = ⊥
 
 module _ {V O R T C D : Type 0} where
   -- a lane has one request less that counts
@@ -50,13 +52,12 @@ module _ {V O R T C D : Type 0} where
   pub record HasTaken (after : C) (got : Got V O R T) (old new : Books V C D O R T) : Type 0 where
     pub answer : Answer V O R T
     pub t : ℕ
+    pub name : Name
     pub lane : Lane V C D O R T
     pub becomes : Lane V C D O R T
-    pub first : old.arrived.items ≡ (record { trustee = t; after = after; answer = answer }) ∷ new.arrived.items
+    pub first : old.arrived.items ≡ (record { trustee = t; name = name; after = after; answer = answer }) ∷ new.arrived.items
     pub capacity : new.arrived.capacity ≡ old.arrived.capacity
-    pub is_got : IsGot t old.number (length old.held.items) answer got
-    pub held : new.held.items ≡ old.held.items ++ holds_by t answer
-    pub held_room : vec_capacity new.held ≡ vec_capacity old.held
+    pub is_got : IsGot t old.number name answer got old.held new.held
     pub coming : old.coming ≡ new.coming + brings answer
     pub of_lane : slice_get old.lanes.items t ≡ Some lane
     pub counts : CountsLess lane becomes
@@ -69,10 +70,8 @@ module _ {V O R T C D : Type 0} where
   -- the first gift was taken, and stands in the list
   pub record HasTakenGift (gift : Trust) (old new : Books V C D O R T) : Type 0 where
     pub first : (at : ℕ) × (old.gifts.items ≡ (record { trustee = gift.trustee; name = gift.name; client = gift.client; at = at }) ∷ new.gifts.items)
-    pub at : gift.at ≡ length old.held.items
     pub capacity : new.gifts.capacity ≡ old.gifts.capacity
-    pub held : new.held.items ≡ old.held.items ++ hold_of gift.trustee gift.name ∷ []
-    pub held_room : vec_capacity new.held ≡ vec_capacity old.held
+    pub held : Gains (hold_of gift.trustee gift.name) gift.at old.held new.held
     pub coming : old.coming ≡ new.coming + 1
     pub lanes : new.lanes ≡ old.lanes
     pub arrived : new.arrived ≡ old.arrived

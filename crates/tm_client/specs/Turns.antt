@@ -13,31 +13,33 @@ use Rattle.tm_batch.specs.declared.message.AnswerBatch.{AnswerBatch}
 use Rattle.tm_model.specs.State.{State, IsHeld}
 use Rattle.tm_model.specs.Serve.{state_after}
 use Rattle.tm_model.specs.Legal.{IsLegal}
+use Rattle.tm_model.specs.Lists.{IsPrefix}
 use Rattle.tm_model.specs.Ran.{ran, answered}
 use Rattle.tm_model.specs.Holds.{has_bye, answers_in}
 use Rattle.tm_model.specs.Fits.{Fits}
 use Rattle.tm_pair.specs.Calls.{Publishes, IsPending, Gets}
-use Rattle.tm_pair.specs.Theory.{Theory}
+use Rattle.tm_pair.specs.Theory.{Theory, KeepsSides}
 use Rattle.tm_pair.specs.declared.moves.Move.TheVariants.{Publish, Collect}
 use Rattle.tm_client.specs.declared.lane.Lane.{Lane}
+use Rattle.tm_client.specs.declared.lane.Waiting.{Waiting}
 use Rattle.tm_client.specs.declared.trust.Trust.{Trust}
 use Rattle.tm_client.specs.declared.answers.Arrival.{Arrival}
 use Rattle.tm_client.specs.declared.answers.Turn.{Turn}
 use Rattle.tm_client.specs.declared.answers.Turn.TheVariants.{Sent, Pending, Got, Idle}
 use Rattle.tm_client.specs.declared.books.Books.{Books}
 use Rattle.tm_client.specs.Lanes.{out_requests}
-use Rattle.tm_client.specs.Clients.{listed}
+use Rattle.tm_client.specs.Listing.{listed, held_count}
 
 -- the trusts that come as gifts of trustee t to client c
 abbrev pub gifts_from : ℕ → ℕ → List Name → List Trust
 gifts_from t c names = map (λ n. record { trustee = t; name = n; client = c; at = 0 }) names
 
 module _ {V O R T C : Type 0} where
-  -- each of some continuations with the answer of its position
-  abbrev pub arrivals_of : ℕ → List C → List (Answer V O R T) → List (Arrival V C O R T)
+  -- each of some continuations, and the name of its request, with the answer of its position
+  abbrev pub arrivals_of : ℕ → List (Waiting C) → List (Answer V O R T) → List (Arrival V C O R T)
   arrivals_of t [] answers = []
-  arrivals_of t (c ∷ cs) [] = []
-  arrivals_of t (c ∷ cs) (a ∷ answers) = record { trustee = t; after = c; answer = a } ∷ arrivals_of t cs answers
+  arrivals_of t (w ∷ waiting) [] = []
+  arrivals_of t (w ∷ waiting) (a ∷ answers) = record { trustee = t; name = w.name; after = w.after; answer = a } ∷ arrivals_of t waiting answers
 
 module _ {V O R T C D Table Owner : Type 0} (theory : Theory V O R T Table D Owner) where
   -- a turn at trustee t changed one lane, and of the rest what it says
@@ -71,17 +73,13 @@ module _ {V O R T C D Table Owner : Type 0} (theory : Theory V O R T Table D Own
   pub record HasLooked (was now : Table) (lane becomes : Lane V C D O R T) (old new : Books V C D O R T) : Type 0 where
     pub pending : IsPending (theory.client_view lane.side) (theory.client_view becomes.side)
     pub did : theory.Did (Collect (theory.client_view lane.side).place None) was now
-    pub arrived : new.arrived ≡ old.arrived
-    pub gifts : new.gifts ≡ old.gifts
-    pub waits : becomes.waits ≡ lane.waits
-    pub afters : becomes.afters ≡ lane.afters
-    pub counting : becomes.counting ≡ lane.counting
-    pub fetching : becomes.fetching ≡ lane.fetching
-    pub said : becomes.said ≡ lane.said
+    -- but for its side the lane stays, and but for its lanes the client
+    pub stays : becomes ≡ record lane { side = becomes.side }
+    pub rest : new ≡ record old { lanes = new.lanes }
 
   -- the trusts that a client may have beside those that it has and those that may come
   abbrev pub free_trusts : Books V C D O R T → ℕ
-  free_trusts books = books.most - (length books.held.items + books.coming)
+  free_trusts books = books.most - (held_count books.held + books.coming)
 
   -- what is due at a trustee where nothing is out: the first of what waits; where nothing waits, the Bye; else an empty batch
   abbrev pub IsByeDue : Lane V C D O R T → Type 0
@@ -136,7 +134,7 @@ module _ {V O R T C D Table Owner : Type 0} (theory : Theory V O R T Table D Own
     -- each answer that came is that of the entry of its own request in it, and one to such a request
     pub entries : answers_in (theory.client_view lane.side).got ≡ answered (theory.client_view lane.side).place (theory.client_view lane.side).seen
     pub fits : AllZip Fits (ran (theory.client_view lane.side).place (theory.client_view lane.side).seen) (answers_in (theory.client_view lane.side).got)
-    pub live : (id : ℕ) → has_bye (theory.client_view lane.side).sent ≡ false → 1 ≤ listed t id books.held.items
+    pub live : (id : ℕ) → has_bye (theory.client_view lane.side).sent ≡ false → 1 ≤ listed t id books.held
         → IsHeld (state_after kind opening (theory.client_view lane.side).seen) (theory.client_view lane.side).place id
 
   -- a turn at trustee t
@@ -145,4 +143,8 @@ module _ {V O R T C D Table Owner : Type 0} (theory : Theory V O R T Table D Own
     pub becomes : Lane V C D O R T
     pub turns : Turns t lane becomes old new
     pub tells : Tells kind t answer was now lane becomes old new
+    -- the table keeps its other sides, and the lane's side stays one of its
+    pub keeps : KeepsSides theory was now lane.side becomes.side
+    -- the log that the side has seen begins with what it had seen before
+    pub extends : IsPrefix (theory.client_view lane.side).seen (theory.client_view becomes.side).seen
     pub sees : Sees kind (theory.opening was) t becomes new

@@ -1,7 +1,7 @@
 //! What the calls of a client answer.
 
 use crate::trust::Trust;
-use tm_batch::{Answer, Refusal};
+use tm_batch::{Answer, Name, Refusal};
 use tm_seq::Entrusted;
 
 /// Why a request was not accepted.
@@ -68,11 +68,13 @@ pub enum Turn {
     Idle,
 }
 
-/// An answer that came and was not taken: of which trustee, the continuation, and the answer.
+/// An answer that came and was not taken: of which trustee, the request's name and continuation, and the answer.
 #[derive(Drop)]
 pub struct Arrival<S: Entrusted, C> {
     /// The number of the trustee.
     pub trustee: u32,
+    /// The name that the request had; the default name for an entrust.
+    pub name: Name,
     /// The continuation of the request.
     pub after: C,
     /// The answer to the request.

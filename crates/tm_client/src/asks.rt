@@ -8,7 +8,7 @@ ghost use Rattle.tm_client.specs.Clients.{IsClient};
 
 use crate::answers::{Refused, Why};
 use crate::client::Client;
-use crate::trust::{Hold, Trust, has};
+use crate::trust::Trust;
 use tm_batch::{Request, WINDOW};
 use tm_pair::{FitsBatches, PairTable};
 
@@ -17,15 +17,7 @@ impl<S: FitsBatches, C: Drop, P: PairTable<S>> Client<S, C, P> {
     pub fn holds(&self, trust: &Trust) -> bool
         ensures { IsTrue result ↔ IsHeldBy self.now.books trust.now }
     {
-        trust.client == self.books.number
-            && has(
-                &self.books.held,
-                trust.at,
-                Hold {
-                    trustee: trust.trustee,
-                    id: trust.name.id,
-                },
-            )
+        trust.client == self.books.number && self.books.held.has(trust.at, trust.hold())
     }
 
     /// Whether `close` was called for a trustee.
@@ -46,8 +38,8 @@ impl<S: FitsBatches, C: Drop, P: PairTable<S>> Client<S, C, P> {
         self.books.lanes[trustee as usize].counting as usize == WINDOW
     }
 
-    /// Why an operation by a trust is not accepted, unless it is.
-    fn why_not_apply(&self, trust: &Trust) -> Option<Why>
+    /// Why an operation by a trust, or to give it up, is not accepted, unless it is.
+    pub(crate) fn why_not_apply(&self, trust: &Trust) -> Option<Why>
         requires client { (openings : ℕ → State S S.Op S.Reply S.Task) × IsClient P.theory.client_view openings self.now.books }
         ensures { MatchOption result (MayApply self.now.books trust.now) (λ why. ApplyWhy self.now.books trust.now why) }
     {
@@ -102,7 +94,7 @@ impl<S: FitsBatches, C: Drop, P: PairTable<S>> Client<S, C, P> {
     }
 
     /// Lets a request wait at a trustee, behind those that do.
-    fn ask(&mut self, trustee: u32, request: Request<S>, after: C)
+    pub(crate) fn ask(&mut self, trustee: u32, request: Request<S>, after: C)
         requires client { (openings : ℕ → State S S.Op S.Reply S.Task) × IsClient P.theory.client_view openings self.old.books }
         requires room { HasRoom self.old.books trustee }
         ensures { HasAsked trustee request after 0 self.old.books self.new.books }

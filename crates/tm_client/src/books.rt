@@ -1,8 +1,9 @@
 //! All that a client keeps.
 
 use crate::answers::Arrival;
+use crate::holds::Holds;
 use crate::lane::Lane;
-use crate::trust::{Hold, Trust};
+use crate::trust::Trust;
 use circular_buffer::HeapCircularBuffer;
 use tm_pair::FitsBatches;
 
@@ -16,7 +17,7 @@ pub struct Books<S: FitsBatches, C, D> {
     // One for each trustee, in order.
     pub(crate) lanes: Vec<Lane<S, C, D>>,
     // The trusts that it holds.
-    pub(crate) held: Vec<Hold>,
+    pub(crate) held: Holds,
     // The answers and the gifts that came and were not taken.
     pub(crate) arrived: HeapCircularBuffer<Arrival<S, C>>,
     pub(crate) gifts: HeapCircularBuffer<Trust>,

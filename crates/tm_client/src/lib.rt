@@ -1,10 +1,12 @@
 //! A client of the trustees: its trusts, its requests that wait, and the answers that came.
 //!
 //! A [`Client`] has a side at each trustee's table. A call as [`Client::apply_then`] accepts a request
-//! and a continuation, or refuses it and hands both back. [`Client::next`] hands out each continuation with
-//! the answer to its own request. No call here allocates, and none waits.
+//! and a continuation, or refuses it and hands both back. [`Client::turn`] publishes the requests that wait at one
+//! trustee, or takes in the answers that came. [`Client::next`] hands out each continuation with
+//! the answer to its own request. [`Client::new`] reserves all room; no other call allocates, and none waits.
 //!
-//! What publishes and collects, and what makes a client, is to come: so nothing outside this crate makes one yet.
+//! Whatever the table, a turn tells what the side has seen of the trustee's log (`Sees`, specs/Turns.antt): each
+//! answer is that of its own request's entry there, and what the client holds is live.
 //! The laws of a client's side ([`collects_bring`] and its kin) speak of no client and hold for every kind.
 #![tactic(auto)]
 
@@ -13,9 +15,12 @@ mod asks;
 mod books;
 mod client;
 mod due;
+mod giving_up;
+mod holds;
 mod lane;
 mod laws;
 mod marking;
+mod opening;
 mod post;
 mod taking;
 mod trust;
@@ -25,8 +30,9 @@ mod turning;
 pub use answers::{Arrival, Got, Refused, Turn, Why};
 pub use books::Books;
 pub use client::Client;
-pub use lane::Lane;
+pub use holds::{Hold, Holds};
+pub use lane::{Lane, Waiting};
 pub use laws::{
     answers_are_of_entries, byes_may_go, collects_bring, held_is_live, rest_is_held, waits_may_go,
 };
-pub use trust::{Hold, Trust};
+pub use trust::Trust;

@@ -1,25 +1,24 @@
 //! The calls of a client that hand out what came.
-ghost use Rattle.std.specs.Prelude.{◌≡◌, ℕ, ◌+◌, ◌<◌, ◌≤◌, [], ◌∷◌, ◌++◌, length, vec_capacity, MatchOption};
+ghost use Rattle.std.specs.Prelude.{◌≡◌, ℕ, ◌+◌, ◌<◌, ◌≤◌, [], MatchOption};
 ghost use Rattle.tm_model.specs.State.{State};
 ghost use Rattle.tm_client.specs.Clients.{IsClient, IsTakeable, brings};
-ghost use Rattle.tm_client.specs.Taking.{IsGot, HasTaken, HasTakenGift, hold_of, holds_by};
+ghost use Rattle.tm_client.specs.Listing.{held_count, room_for};
+ghost use Rattle.tm_client.specs.Taking.{IsListed, IsGot, HasTaken, HasTakenGift};
 
 use crate::answers::Got;
 use crate::books::Books;
 use crate::client::Client;
-use crate::trust::{Hold, Trust};
+use crate::holds::{Hold, Holds};
+use crate::trust::Trust;
 use tm_batch::{Answer, Name};
 use tm_pair::{FitsBatches, PairTable};
 
 /// Puts a trust of trustee `trustee` into a client's list.
-fn hold(held: &mut Vec<Hold>, client: u32, trustee: u32, name: Name) -> Trust
-    requires room { length held.old.items < vec_capacity held.old }
-    ensures held { held.new.items ≡ held.old.items ++ hold_of trustee name ∷ [] }
-    ensures capacity { vec_capacity held.new ≡ vec_capacity held.old }
-    ensures trust { result ≡ record { trustee = trustee; name = name; client = client; at = length held.old.items } }
+pub(crate) fn hold(held: &mut Holds, client: u32, trustee: u32, name: Name) -> Trust
+    requires room { held_count held.old < room_for held.old }
+    ensures { IsListed trustee client name result held.old held.new }
 {
-    let at = held.len();
-    held.push_reserved(Hold {
+    let at = held.insert(Hold {
         trustee,
         id: name.id,
     });
@@ -31,20 +30,19 @@ fn hold(held: &mut Vec<Hold>, client: u32, trustee: u32, name: Name) -> Trust
     }
 }
 
-/// What is handed out for an answer. A trust that it brings is put into the client's list, and fewer may come then.
+/// What is handed out for the answer to a request that had this name. A trust that it brings is put into the client's list, and fewer may come then.
 fn got_of<S: FitsBatches>(
-    held: &mut Vec<Hold>,
+    held: &mut Holds,
     coming: &mut u32,
     client: u32,
     trustee: u32,
+    asked: Name,
     answer: Answer<S>,
 ) -> Got<S>
     requires takeable { IsTakeable answer }
     requires coming { brings answer ≤ coming.old }
-    requires room { length held.old.items + brings answer ≤ vec_capacity held.old }
-    ensures got { IsGot trustee client (length held.old.items) answer result }
-    ensures held { held.new.items ≡ held.old.items ++ holds_by trustee answer }
-    ensures capacity { vec_capacity held.new ≡ vec_capacity held.old }
+    requires room { held_count held.old + brings answer ≤ room_for held.old }
+    ensures got { IsGot trustee client asked answer result held.old held.new }
     ensures coming { coming.old ≡ coming.new + brings answer }
 {
     match answer {
@@ -61,11 +59,15 @@ fn got_of<S: FitsBatches>(
         Answer::Gone => Got::Gone,
         Answer::GiftsFull => Got::GiftsFull,
         Answer::Released => Got::Released,
-        Answer::Launched(_)
-        | Answer::TicketsSpent(_)
-        | Answer::Reclaimed(_)
-        | Answer::Shared
-        | Answer::ByeDone => unreachable!(),
+        Answer::Reclaimed(value) => {
+            *coming -= 1;
+            Got::Reclaimed(value)
+        }
+        Answer::Shared => {
+            *coming -= 1;
+            Got::Shared(hold(held, client, trustee, asked))
+        }
+        Answer::Launched(_) | Answer::TicketsSpent(_) | Answer::ByeDone => unreachable!(),
     }
 }
 
@@ -86,6 +88,7 @@ impl<S: FitsBatches, C: Drop, P: PairTable<S>> Client<S, C, P> {
             &mut books.coming,
             books.number,
             arrival.trustee,
+            arrival.name,
             arrival.answer,
         );
         Some((arrival.after, got))

@@ -1,7 +1,8 @@
 //! A reference to an entrusted object, which one client holds.
-ghost use Rattle.std.specs.Prelude.{◌≡◌, ◌↔◌, IsTrue};
-ghost use Rattle.std.specs.List.{Contains};
+ghost use Rattle.std.specs.Prelude.{◌≡◌};
+ghost use Rattle.tm_client.specs.Listing.{hold_of};
 
+use crate::holds::Hold;
 use tm_batch::Name;
 
 /// A reference to an object that its trustee keeps for one client. Only the client's calls make one.
@@ -12,7 +13,7 @@ pub struct Trust {
     pub(crate) trustee: u32,
     pub(crate) name: Name,
     pub(crate) client: u32,
-    // Where it stood in the client's list when it was made.
+    // Its place in the client's list.
     pub(crate) at: usize,
 }
 
@@ -37,23 +38,14 @@ impl Trust {
     {
         self.client
     }
-}
 
-/// What a client's list of trusts says of one: its trustee and the object's number there.
-#[derive(Debug, Clone, Copy, PartialEq, Eq)]
-pub struct Hold {
-    /// The trustee.
-    pub trustee: u32,
-    /// The object's number.
-    pub id: u64,
-}
-
-/// Whether a list of trusts has this one. It is looked for at `at` first.
-pub(crate) fn has(list: &Vec<Hold>, at: usize, hold: Hold) -> bool
-    ensures { IsTrue result ↔ Contains list.now.items hold }
-{
-    if at < list.len() && list[at] == hold {
-        return true;
+    // What the client's list says of it.
+    pub(crate) fn hold(&self) -> Hold
+        ensures { result ≡ hold_of self.now.trustee self.now.name }
+    {
+        Hold {
+            trustee: self.trustee,
+            id: self.name.id,
+        }
     }
-    list.contains(&hold)
 }

@@ -1,20 +1,24 @@
 //! What a turn does with batches.
 ghost use Rattle.std.specs.Prelude.{◌≡◌, ◌+◌, ◌-◌, ◌<◌, ◌≤◌, [], ◌∷◌, ◌++◌, length, drop, take, min};
 ghost use Rattle.tm_batch.specs.declared.limits.TheConstants.{MOST_REQUESTS, MOST_ROOM};
+ghost use Rattle.tm_client.specs.Asking.{At};
+ghost use Rattle.tm_client.specs.Receiving.{MayReceive, HasTakenIn};
 ghost use Rattle.tm_client.specs.Turns.{arrivals_of, gifts_from};
 
 use crate::answers::Arrival;
+use crate::books::Books;
+use crate::lane::Waiting;
 use crate::trust::Trust;
 use arrayvec::ArrayVec;
 use circular_buffer::HeapCircularBuffer;
-use tm_batch::{Answer, MOST_REQUESTS, Name};
+use tm_batch::{Answer, AnswerBatch, Name};
 use tm_pair::FitsBatches;
 
-/// Lets the first of some continuations, if there is one, arrive with an answer.
+/// Lets the first of what waits for answers, if there is one, arrive with an answer.
 fn arrive_first<S: FitsBatches, C: Drop>(
     trustee: u32,
     answer: Answer<S>,
-    afters: &mut HeapCircularBuffer<C>,
+    afters: &mut HeapCircularBuffer<Waiting<C>>,
     arrived: &mut HeapCircularBuffer<Arrival<S, C>>,
 )
     requires room { length arrived.old.items + min 1 (length afters.old.items) ≤ arrived.old.capacity }
@@ -23,31 +27,32 @@ fn arrive_first<S: FitsBatches, C: Drop>(
     ensures afters { afters.new.items ≡ drop 1 afters.old.items }
     ensures afters_room { afters.new.capacity ≡ afters.old.capacity }
 {
-    if let Some(after) = afters.pop_front() {
+    if let Some(waiting) = afters.pop_front() {
         let _ = arrived.try_push_back(Arrival {
             trustee,
-            after,
+            name: waiting.name,
+            after: waiting.after,
             answer,
         });
     }
 }
 
-/// Lets each of some continuations arrive with the answer of its position.
+/// Lets each of what waits for answers arrive with the answer of its position, of which none is left then.
 pub(crate) fn arrive<S: FitsBatches, C: Drop>(
     trustee: u32,
-    answers: ArrayVec<Answer<S>, MOST_REQUESTS>,
-    afters: &mut HeapCircularBuffer<C>,
+    batch: &mut AnswerBatch<S>,
+    afters: &mut HeapCircularBuffer<Waiting<C>>,
     arrived: &mut HeapCircularBuffer<Arrival<S, C>>,
 )
-    requires room { length arrived.old.items + min (length answers.items) (length afters.old.items) ≤ arrived.old.capacity }
-    ensures arrived { arrived.new.items ≡ arrived.old.items ++ arrivals_of trustee afters.old.items answers.items }
+    requires room { length arrived.old.items + min (length batch.old.answers.items) (length afters.old.items) ≤ arrived.old.capacity }
+    ensures arrived { arrived.new.items ≡ arrived.old.items ++ arrivals_of trustee afters.old.items batch.old.answers.items }
     ensures capacity { arrived.new.capacity ≡ arrived.old.capacity }
-    ensures afters { afters.new.items ≡ drop (length answers.items) afters.old.items }
+    ensures afters { afters.new.items ≡ drop (length batch.old.answers.items) afters.old.items }
     ensures afters_room { afters.new.capacity ≡ afters.old.capacity }
+    ensures gifts { batch.new.gifts ≡ batch.old.gifts }
 {
-    let mut answers = answers;
-    while !answers.is_empty() {
-        let answer = answers.remove(0);
+    while !batch.answers.is_empty() {
+        let answer = batch.answers.remove(0);
         arrive_first(trustee, answer, afters, arrived);
     }
 }
@@ -73,6 +78,30 @@ pub(crate) fn receive(
             at: 0,
         });
     }
+}
+
+/// Takes in the answers of a trustee to the batch that was out, after which nothing is out. How many answers, gifts
+/// and completions came.
+pub(crate) fn take_in<S: FitsBatches, C: Drop, D>(
+    books: &mut Books<S, C, D>,
+    trustee: u32,
+    batch: AnswerBatch<S>,
+) -> u32
+    requires trustee { trustee < length books.old.lanes.items }
+    requires room { At books.old trustee (λ lane. MayReceive batch lane books.old) }
+    ensures received { HasTakenIn trustee batch books.old books.new }
+    ensures count { result ≡ length batch.answers.items + length batch.gifts.items + length batch.completions.items }
+{
+    let mut batch = batch;
+    let gifts = batch.gifts.len() as u32;
+    let count = batch.answers.len() as u32 + gifts + batch.completions.len() as u32;
+    let lane = &mut books.lanes[trustee as usize];
+    books.coming -= lane.room - gifts;
+    lane.out = false;
+    lane.room = 0;
+    arrive(trustee, &mut batch, &mut lane.afters, &mut books.arrived);
+    receive(trustee, books.number, batch.gifts, &mut books.gifts);
+    count
 }
 
 /// As many as are free, at most 16.

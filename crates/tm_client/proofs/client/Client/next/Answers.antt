@@ -25,14 +25,13 @@ returns-clause-next g c =
     c.index_mut.ensures.value in
     record {
       answer = c.in-Some.arrival.answer;
+      name = c.in-Some.arrival.name;
       t = c.in-Some.arrival.trustee;
       lane = c.index_mut.result.now;
       becomes = _;
       first = rw c.pop_front.ensures.items (taken.first_drop c.args.self.now.books.arrived.items c.in-Some.arrival e);
       capacity = rw c.pop_front.ensures.items refl;
       is_got = c.got_of-got.ensures.got;
-      held = c.got_of-got.ensures.held;
-      held_room = c.got_of-got.ensures.capacity;
       coming = c.got_of-got.ensures.coming;
       of_lane = there;
       counts = record {
@@ -62,14 +61,13 @@ returns-clause-client g c = λ openings is.
     c.index_mut.ensures.value in
     taken.taking_keeps g.P.PairTable.theory.client_view openings c.in-Some.arrival.after c.got_of-got.result c.args.self.now.books _ is (record {
       answer = c.in-Some.arrival.answer;
+      name = c.in-Some.arrival.name;
       t = c.in-Some.arrival.trustee;
       lane = c.index_mut.result.now;
       becomes = _;
       first = rw c.pop_front.ensures.items (taken.first_drop c.args.self.now.books.arrived.items c.in-Some.arrival e);
       capacity = rw c.pop_front.ensures.items refl;
       is_got = c.got_of-got.ensures.got;
-      held = c.got_of-got.ensures.held;
-      held_room = c.got_of-got.ensures.capacity;
       coming = c.got_of-got.ensures.coming;
       of_lane = there;
       counts = record {

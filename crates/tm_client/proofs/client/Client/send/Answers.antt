@@ -1,15 +1,15 @@
-use Rattle.std.proofs.Common.{rules, ◌≡◌, ◌+◌, ◌-◌, ◌≤◌, min, length, arith, refl, sym, ◌∙◌, ap, subst}
-use Rattle.std.specs.Prelude.{slice_get, slice_set}
+use Rattle.std.proofs.Common.{◌≡◌, ◌+◌, ◌-◌, min, length, arith, refl, sym, ◌∙◌, ap, subst}
 use Rattle.tm_batch.specs.declared.limits.TheConstants.{MOST_ROOM}
-use Rattle.std.specs.declared.option.Option.TheVariants.{None, Some}
+use Rattle.std.specs.declared.option.Option.TheVariants.{None}
 use Rattle.std.proofs.lemmas.Option.{slice_get_read}
 use Rattle.tm_pair.specs.Calls.{Publishes}
 use Rattle.tm_pair.specs.Sides.{IsGoodClient}
+use Rattle.tm_client.specs.Listing.{held_count}
 use Rattle.tm_client.specs.Lanes.{IsLane}
 use Rattle.tm_client.specs.Clients.{come_of}
-use Rattle.tm_client.specs.Turns.{Sees}
 use Rattle.tm_client.proofs.Fronts.{some_has, set_there, set_same}
 use Rattle.tm_client.proofs.Leaving.{left_goes, left_is_due, nothing_is_due}
+use Rattle.tm_client.proofs.Looking.{same_extends}
 use Rattle.tm_client.proofs.Seeing.{sees_at}
 use Rattle.tm_client.proofs.Sending.{sending_keeps}
 use Rattle.tm_client.proofs.client.Client.send.Goals as goal
@@ -89,7 +89,7 @@ returns-clause-turned g c =
     let (openings, same, is) = c.requires.client in
     let posts = c.post_due-count.ensures in
     let becomes = c.post_due-count.new.lane in
-    let length_is : c.len.result ≡ length books.held.items = let many = c.len.ensures in omega (arith, many) in
+    let length_is : c.len.result ≡ held_count books.held = c.len.ensures in
     let good =
     subst (λ s. IsGoodClient g.S.Entrusted.kind s (theory.client_view becomes.side)) (posts.keeps.opening ∙ sym same)
     (g.met.P.PairTable.laws.client_is_good c.post_due-count.new.table becomes.side posts.keeps.mine) in
@@ -112,6 +112,8 @@ returns-clause-turned g c =
         counting = posts.counting;
         fetching = posts.fetching;
       };
+      keeps = posts.keeps;
+      extends = same_extends (theory.client_view lane.side) (theory.client_view becomes.side) posts.publishes.seen;
       sees =
           sees_at theory g.S.Entrusted.kind openings c.args.trustee becomes _ (returns-clause-client g c openings same is)
           (set_there books.lanes.items c.args.trustee becomes c.requires.trustee) good (theory.opening c.args.table.now) same;
@@ -135,5 +137,13 @@ returns-then-is_idle-clause-turned g c =
       becomes = lane;
       turns = record { of_lane = there; lanes = sym (set_same books.lanes.items c.args.trustee lane there); closing = refl; number = refl; clients = refl; most = refl; held = refl };
       tells = record { free = free; waits = due.0; no_bye = due.1; no_fetch = due.2; kept = refl; table = refl };
+      keeps = record {
+        same = g.met.P.PairTable.laws.same_refl c.args.table.now;
+        opening = refl;
+        mine = mine;
+        clients = λ other ne has. has;
+        trustee = λ other has. has;
+      };
+      extends = same_extends (theory.client_view lane.side) (theory.client_view lane.side) refl;
       sees = sees_at theory g.S.Entrusted.kind openings c.args.trustee lane books is there good (theory.opening c.args.table.now) same;
     }
