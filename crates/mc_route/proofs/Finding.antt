@@ -21,8 +21,7 @@ one_counted a b q r t true same grown above below =
     let before : a ≡ q = below (omega arith) in
     (λ h. omega arith, λ h. absurd (omega arith))
 one_counted a b q r t false same grown above below =
-    let is_not : 1 + r ≡ 1 + t → ⊥ = eqb-false (1 + r) (1 + t) same in
-    (
+    let is_not : 1 + r ≡ 1 + t → ⊥ = eqb-false (1 + r) (1 + t) same in (
       λ h. (let under : t < r = omega (arith, is_not) in let before : a ≡ q + 1 = above under in omega arith),
       λ h. (let before : a ≡ q = below (omega arith) in omega arith),
     )

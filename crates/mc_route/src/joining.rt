@@ -117,11 +117,7 @@ fn only_reply_shows(operation: Operation, replies: Vec<ShardReply>) -> Shown
 }
 
 // What replies show, of which none is for want of memory.
-fn shows_by(
-    alloc: Global,
-    showing: Showing,
-    replies: Vec<ShardReply>,
-) -> Result<Shown, AllocError>
+fn shows_by(alloc: Global, showing: Showing, replies: Vec<ShardReply>) -> Result<Shown, AllocError>
     ensures { IfOk result (λ shown. shown ≡ shows_by showing replies.items) }
 {
     match showing {
@@ -138,11 +134,7 @@ fn shows_by(
 /// is shown. A reply that the operation never has, a launch that ended with another reply than its work's own, and
 /// another number of replies than there were parts show `ERROR`. An `Err`, for want of memory for the list of items,
 /// drops the replies. The values of a `get` are moved.
-pub fn join(
-    alloc: Global,
-    frame: Frame,
-    replies: Vec<ShardReply>,
-) -> Result<Shown, AllocError>
+pub fn join(alloc: Global, frame: Frame, replies: Vec<ShardReply>) -> Result<Shown, AllocError>
     ensures { IfOk result (λ shown. (command : Command) → frame ≡ frame_of command → shown ≡ shown_of command replies.items) }
 {
     if frame.quiet {

@@ -1,5 +1,6 @@
 //! What is asked for a command.
 ghost use Rattle.std.specs.Prelude.{◌≡◌, [], ◌∷◌, map, IfOk};
+ghost use Rattle.mc_model.specs.Plain.{parts_of};
 ghost use Rattle.mc_route.specs.Desks.{first_task};
 ghost use Rattle.mc_route.specs.Plans.{asked_of, shard_part, ask_of, frame_of};
 
@@ -32,12 +33,12 @@ pub struct Planned {
 }
 
 // One part alone.
-fn one_part(alloc: Global, class: u32, op: ShardOp) -> Result<Ask, AllocError>
-    ensures { IfOk result (λ ask. ask ≡ Ask.Shards (record { class = class; op = op } ∷ [])) }
+fn one_part(alloc: Global, class: u32, op: ShardOp) -> Result<ShardParts, AllocError>
+    ensures { IfOk result (λ parts. parts ≡ record { class = class; op = op } ∷ []) }
 {
     let mut parts = ShardParts::new(alloc);
     parts.push(ShardPart { class, op })?;
-    Ok(Ask::Shards(parts))
+    Ok(parts)
 }
 
 // The part that gets the item of a key, which goes at another time where there is an exptime.
@@ -62,14 +63,14 @@ fn part_for_each(
     exptime: Option<i64>,
     keys: Keys,
     moment: u64,
-) -> Result<Ask, AllocError>
-    ensures { IfOk result (λ ask. ask ≡ Ask.Shards (map (shard_part moment) (map (λ key. (key, asked_of exptime)) keys))) }
+) -> Result<ShardParts, AllocError>
+    ensures { IfOk result (λ parts. parts ≡ map (shard_part moment) (map (λ key. (key, asked_of exptime)) keys)) }
 {
     let mut parts = ShardParts::new(alloc);
     for key in keys.into_vec() {
         parts.push(part_of(key, exptime, moment))?;
     }
-    Ok(Ask::Shards(parts))
+    Ok(parts)
 }
 
 // A launch of this work.
@@ -85,55 +86,69 @@ fn launch(work: DeskWork, trustees: u32) -> Ask
     })
 }
 
-// What is asked for a command.
-fn ask_of(
-    alloc: Global,
-    command: Command,
-    moment: u64,
-    trustees: u32,
-) -> Result<Ask, AllocError>
-    ensures { IfOk result (λ ask. ask ≡ ask_of command moment trustees) }
+// The parts of a command, none of one that is no command on keys.
+fn parts_of(alloc: Global, command: Command, moment: u64) -> Result<ShardParts, AllocError>
+    ensures { IfOk result (λ parts. parts ≡ map (shard_part moment) (parts_of command)) }
 {
-    match command {
+    let (class, op) = match command {
+        Command::Get { keys, .. } => return part_for_each(alloc, None, keys, moment),
+        Command::GetTouch { exptime, keys, .. } => {
+            return part_for_each(alloc, Some(exptime), keys, moment);
+        }
         Command::Store {
             how,
             key,
             flags,
             exptime,
             value,
-            quiet: _,
-        } => {
-            let class = class_of(&key);
-            let op = ShardOp::Store {
+            ..
+        } => (
+            class_of(&key),
+            ShardOp::Store {
                 how,
                 key,
                 flags,
                 exptime,
                 value,
                 moment,
-            };
-            one_part(alloc, class, op)
-        }
-        Command::Get { keys, .. } => part_for_each(alloc, None, keys, moment),
-        Command::GetTouch { exptime, keys, .. } => {
-            part_for_each(alloc, Some(exptime), keys, moment)
-        }
-        Command::Delete { key, .. } => {
-            one_part(alloc, class_of(&key), ShardOp::Delete { key, moment })
-        }
-        Command::Change { up, key, by, .. } => {
-            let class = class_of(&key);
-            let op = ShardOp::Change { up, key, by, moment };
-            one_part(alloc, class, op)
-        }
-        Command::Touch { key, exptime, .. } => {
-            let class = class_of(&key);
-            let op = ShardOp::Touch { key, exptime, moment };
-            one_part(alloc, class, op)
-        }
+            },
+        ),
+        Command::Delete { key, .. } => (class_of(&key), ShardOp::Delete { key, moment }),
+        Command::Change { up, key, by, .. } => (
+            class_of(&key),
+            ShardOp::Change {
+                up,
+                key,
+                by,
+                moment,
+            },
+        ),
+        Command::Touch { key, exptime, .. } => (
+            class_of(&key),
+            ShardOp::Touch {
+                key,
+                exptime,
+                moment,
+            },
+        ),
+        Command::FlushAll { .. }
+        | Command::Stats
+        | Command::Version
+        | Command::Verbosity { .. }
+        | Command::Quit => return Ok(ShardParts::new(alloc)),
+    };
+    one_part(alloc, class, op)
+}
+
+// What is asked for a command.
+fn ask_of(alloc: Global, command: Command, moment: u64, trustees: u32) -> Result<Ask, AllocError>
+    ensures { IfOk result (λ ask. ask ≡ ask_of command moment trustees) }
+{
+    match command {
         Command::FlushAll { delay, .. } => Ok(launch(DeskWork::Flush { delay, moment }, trustees)),
         Command::Stats => Ok(launch(DeskWork::Count { moment }, trustees)),
         Command::Version | Command::Verbosity { .. } | Command::Quit => Ok(Ask::Nobody),
+        keyed => Ok(Ask::Shards(parts_of(alloc, keyed, moment)?)),
     }
 }
 

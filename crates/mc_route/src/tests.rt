@@ -13,7 +13,12 @@ use tm_batch::{First, Request};
 use tm_seq::{Entrusted, Event, Next, Sum};
 
 // Asks the object that a trustee holds at an index.
-fn ask_at(objects: &mut [First<Store>], trustee: u32, index: u32, op: ShardOp) -> Event<ShardReply> {
+fn ask_at(
+    objects: &mut [First<Store>],
+    trustee: u32,
+    index: u32,
+    op: ShardOp,
+) -> Event<ShardReply> {
     let mut left = index;
     for object in objects.iter_mut() {
         if object.trustee == trustee {
@@ -37,7 +42,9 @@ fn replies_of(
         Ask::Nobody => {}
         Ask::Shards(parts) => {
             for part in parts.into_vec() {
-                let object = objects.get_mut(part.class as usize).ok_or("a class is missing")?;
+                let object = objects
+                    .get_mut(part.class as usize)
+                    .ok_or("a class is missing")?;
                 replies.push(object.value.run(part.op))?;
             }
         }

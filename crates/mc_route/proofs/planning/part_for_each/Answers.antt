@@ -1,6 +1,4 @@
 use Rattle.std.proofs.Common.{◌≡◌, ◌∙◌, ℕ, List, [], ◌∷◌, ◌++◌, length, ap, sym, append_assoc, arith}
-use Rattle.mc_route.specs.declared.parts.ShardPart.{ShardPart}
-use Rattle.mc_route.specs.declared.planning.Ask.TheVariants.{Shards}
 use Rattle.mc_route.proofs.KeyParts.{one_part_more, all_parts}
 use Rattle.mc_route.proofs.planning.part_for_each.Goals as goal
 
@@ -14,4 +12,4 @@ pub returns : goal.returns
 returns c =
     let ended : c.loop-key.key-iterator.rest.len ≡ 0 = c.in-None.ensures.steps.0 in
     let none : length c.loop-key.key-iterator.rest.items ≡ 0 = omega arith in
-    ap (λ (l : List ShardPart). Shards l) (all_parts _ _ c.args.keys c.loop-key.yielded c.loop-key.key-iterator.rest.items c.loop-key.parts c.loop-key.invariant.parts c.loop-key.invariant.still none)
+    all_parts _ _ c.args.keys c.loop-key.yielded c.loop-key.key-iterator.rest.items c.loop-key.parts c.loop-key.invariant.parts c.loop-key.invariant.still none
