@@ -58,10 +58,19 @@ fn keys_and_their_classes(rt: HostRuntime) -> Result<(), Fail> {
         assert_eq!(rt; class_of(&key), class, "of {key:?}");
     }
     // (a key of up to 22 bytes has no block, one of up to 55 a small one)
-    for length in [1, 22, 23, 55, 56, 250] {
-        let key = Key::of(alloc, &long[..length])?;
-        assert_eq!(rt; key.get(), &long[..length]);
-        assert_eq!(rt; key.clone()?.get(), &long[..length]);
+    let lengths: [&[u8]; 6] = [
+        &long[..1],
+        &long[..22],
+        &long[..23],
+        &long[..55],
+        &long[..56],
+        &long[..250],
+    ];
+    for text in lengths {
+        let key = Key::of(alloc, text)?;
+        let copy = key.clone()?;
+        assert_eq!(rt; key.get(), text);
+        assert_eq!(rt; copy.get(), text);
     }
     assert_eq!(rt; size_of::<Key>(), 24);
     let shown = format!(in alloc; "{} {}", KeyRefused::BadKey, KeyRefused::NoMemory)?;
