@@ -1,10 +1,10 @@
 -- Launches on the desk, one class after another.
-use Rattle.std.proofs.Common.{◌≡◌, ◌∙◌, ℕ, zero, suc, ◌+◌, ◌-◌, ◌^◌, ◌<◌, ◌≤◌, min, Bool, true, false, cond, ◌&&◌, List, [], ◌∷◌, ◌++◌, map, length, Option, Some, None, refl, ap, sym, arith, zero-add}
-use Rattle.std.specs.Prelude.{sum, nat_lt, nat_le, ◌==◌}
+use Rattle.std.proofs.Common.{◌≡◌, ◌∙◌, ℕ, suc, ◌+◌, ◌-◌, ◌^◌, ◌<◌, ◌≤◌, min, Bool, true, false, cond, ◌&&◌, List, [], ◌∷◌, ◌++◌, map, length, Some, refl, ap, arith, zero-add}
+use Rattle.std.specs.Prelude.{sum}
 use Rattle.std.specs.List.{fold, range_with_len}
 use Rattle.std.proofs.lemmas.Bool.{lt-ltb, le-leb}
 use Rattle.std.proofs.lemmas.List.Sums.{sum_by-cons}
-use Rattle.tm_seq.specs.declared.kind.Event.TheVariants.{Begin, Reply}
+use Rattle.tm_seq.specs.declared.kind.Event.TheVariants.{Reply}
 use Rattle.tm_seq.specs.declared.kind.Next.TheVariants.{Done}
 use Rattle.mc_model.specs.declared.reply.ShardReply.{ShardReply}
 use Rattle.mc_model.specs.declared.reply.ShardReply.TheVariants.{NoMemory}
@@ -125,13 +125,13 @@ totals_are (Count moment) counts =
     let stored_is : stored_after (Count moment) 0 counts ≡ min (sum stored) (2 ^ 64 - 1) = fold_is moment stored 0 (omega arith) ∙ ap (λ n. min n (2 ^ 64 - 1)) (zero-add (sum stored)) in
     ap (λ n. told_by (Count moment) n (stored_after (Count moment) 0 counts)) held_is ∙ ap (λ n. told_by (Count moment) (min (sum held) (2 ^ 64 - 1)) n) stored_is
 
-begins : (v : Desk) (work : DeskWork) (trustees : ℕ) (replies : List ShardReply) → 2 ≤ trustees → launched v work trustees replies ≡ launch_at replies (goes_on v (first_task work trustees))
+begins : (v : Desk) (work : DeskWork) (trustees : ℕ) (replies : List ShardReply) → 2 ≤ trustees → launched v (first_task work trustees) replies ≡ launch_at replies (goes_on v (first_task work trustees))
 unfolding launch_at
 begins v work trustees replies some =
     ap (λ (b : Bool). launch_at replies (cond b (goes_on v (first_task work trustees)) (gives_up v))) (begin_awaited work trustees some)
 
 pub asks_each : (v : Desk) (work : DeskWork) (trustees : ℕ) (counts : List (ℕ × ℕ)) → 2 ≤ trustees → length counts ≡ 64
-    → launched v work trustees (own_replies work counts) ≡ record {
+    → launched v (first_task work trustees) (own_replies work counts) ≡ record {
       asked = classes_asked work trustees 64;
       ended = Some (with_done v, told_by work (total_of (λ c. c.0) counts) (total_of (λ c. c.1) counts));
     }
@@ -145,7 +145,7 @@ suc_is : (n : ℕ) → suc n ≡ n + 1
 suc_is n = omega arith
 
 pub stops_for_memory : (v : Desk) (work : DeskWork) (trustees : ℕ) (counts : List (ℕ × ℕ)) (others : List ShardReply) → 2 ≤ trustees → length counts < 64
-    → launched v work trustees (own_replies work counts ++ NoMemory ∷ others) ≡ record {
+    → launched v (first_task work trustees) (own_replies work counts ++ NoMemory ∷ others) ≡ record {
       asked = classes_asked work trustees (length counts + 1);
       ended = Some (v, NoMemory);
     }

@@ -5,3 +5,4 @@ mod LaunchSteps
 mod Placed
 mod KeyParts
 mod Finding
+mod ClassReplies

@@ -1,5 +1,5 @@
 -- What is shown of the replies to a command, by its frame.
-use Rattle.std.proofs.Common.{◌≡◌, List, [], ◌∷◌, Option, Some, None, refl, ap, sym}
+use Rattle.std.proofs.Common.{◌≡◌, List, [], ◌∷◌, Some, None, refl, ap, sym}
 use Rattle.mc_model.specs.declared.message.Command.{Command}
 use Rattle.mc_model.specs.declared.message.Command.TheVariants as command
 use Rattle.mc_model.specs.declared.reply.ShardReply.{ShardReply}

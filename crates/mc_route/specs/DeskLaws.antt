@@ -17,7 +17,7 @@ use Rattle.mc_route.specs.declared.desk.Desk.{Desk}
 use Rattle.mc_route.specs.declared.desk.DeskWork.{DeskWork}
 use Rattle.mc_route.specs.declared.desk.DeskWork.TheVariants.{Flush, Count}
 use Rattle.mc_route.specs.declared.desk.DeskTask.{DeskTask}
-use Rattle.mc_route.specs.Desks.{DeskNext, desk_kind, desk_left, desk_step, desk_told, goes_on, gives_up, goes_on_with, told_by, asks_next, with_counts, with_done, with_reply, awaits_begin, awaits_reply}
+use Rattle.mc_route.specs.Desks.{DeskNext, desk_kind, desk_left, desk_step, desk_told, goes_on, goes_on_with, told_by, with_counts, with_done, with_reply, awaits_begin, awaits_reply}
 
 step_kept : (v : Desk) (o : ShardOp) → (desk_step v o).1 ≡ reply.NoMemory → (desk_step v o).0 ≡ v
 step_kept v (op.Count moment) e = refl

@@ -13,7 +13,7 @@ use Rattle.mc_route.specs.declared.desk.Desk.{Desk}
 use Rattle.mc_route.specs.declared.desk.DeskWork.{DeskWork}
 use Rattle.mc_route.specs.declared.desk.DeskTask.{DeskTask}
 use Rattle.mc_route.specs.Places.{trustee_of, index_of}
-use Rattle.mc_route.specs.Desks.{DeskNext, asked_for, told_by, first_task, with_done, desk_told}
+use Rattle.mc_route.specs.Desks.{asked_for, told_by, first_task, with_done, desk_told}
 
 -- what is asked: the trustee, which of the classes there, and the operation
 pub record Asked : Type 0 where
@@ -36,10 +36,10 @@ launch_of (r ∷ replies) v (Ask trustee index op task) =
     record { asked = record { trustee = trustee; index = index; op = op } ∷ later.asked; ended = later.ended }
 launch_of (r ∷ replies) v (Done reply) = record { asked = []; ended = Some (v, reply) }
 
--- a launch that begins
-abbrev pub launched : Desk → DeskWork → ℕ → List ShardReply → Launch
-launched v work trustees replies =
-    let begun = desk_told v (first_task work trustees) Begin in
+-- a launch of a task
+abbrev pub launched : Desk → DeskTask → List ShardReply → Launch
+launched v task replies =
+    let begun = desk_told v task Begin in
     launch_of replies begun.0 begun.1
 
 -- the class of this number is asked where it stands
@@ -66,7 +66,7 @@ total_of part counts = min (sum (map part counts)) (2 ^ 64 - 1)
 abbrev pub DeskAsksEachClass : Type 0
 DeskAsksEachClass =
     (v : Desk) (work : DeskWork) (trustees : ℕ) (counts : List (ℕ × ℕ)) → FEWEST_TRUSTEES ≤ trustees → length counts ≡ CLASSES
-    → launched v work trustees (own_replies work counts) ≡ record {
+    → launched v (first_task work trustees) (own_replies work counts) ≡ record {
       asked = classes_asked work trustees CLASSES;
       ended = Some (with_done v, told_by work (total_of (λ c. c.0) counts) (total_of (λ c. c.1) counts));
     }
@@ -75,7 +75,7 @@ DeskAsksEachClass =
 abbrev pub DeskStopsForMemory : Type 0
 DeskStopsForMemory =
     (v : Desk) (work : DeskWork) (trustees : ℕ) (counts : List (ℕ × ℕ)) (others : List ShardReply) → FEWEST_TRUSTEES ≤ trustees → length counts < CLASSES
-    → launched v work trustees (own_replies work counts ++ NoMemory ∷ others) ≡ record {
+    → launched v (first_task work trustees) (own_replies work counts ++ NoMemory ∷ others) ≡ record {
       asked = classes_asked work trustees (length counts + 1);
       ended = Some (v, NoMemory);
     }

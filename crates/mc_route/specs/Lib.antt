@@ -4,4 +4,5 @@ pub mod DeskLaws
 pub mod Plans
 pub mod Joins
 pub mod Launches
+pub mod ClassLaunches
 pub mod Laws

@@ -16,7 +16,10 @@ mod planning;
 pub use desk::{Desk, DeskTask, DeskWork};
 pub use frame::{Frame, Operation, Showing};
 pub use joining::join;
-pub use laws::{classes_are_found, desk_asks_each_class, desk_stops_for_memory, parts_are_steps};
+pub use laws::{
+    classes_are_found, desk_asks_each_class, desk_stops_for_memory, launches_are_replies,
+    parts_are_steps,
+};
 pub use parts::{ShardPart, ShardParts};
 pub use places::{Store, index_of, store_first, trustee_of};
 pub use planning::{Ask, Planned, plan};
