@@ -14,11 +14,11 @@ use Rattle.tm_seq.specs.declared.counter.CounterReply.{CounterReply}
 use Rattle.tm_seq.specs.declared.counter.CounterTask.{CounterTask}
 use Rattle.tm_batch.specs.declared.config.First.{First}
 use Rattle.tm_batch.specs.declared.message.Name.{Name}
-use Rattle.tm_model.specs.State.{ids_above, holds_at}
+use Rattle.tm_model.specs.State.{State, ids_above, holds_at}
 use Rattle.tm_model.specs.Opening.{is_named, IsBuildable, placed_on}
 use Rattle.tm_pair.specs.Theory.{Theory, IsNewClientOf, IsNewTable}
 use Rattle.tm_toggle.specs.Ruled.{opening_by}
-use Rattle.tm_toggle.specs.Shared.{opening_at, shared_theory, IsClientOf, IsSame}
+use Rattle.tm_toggle.specs.Shared.{opening_at, client_at, shared_theory, IsClientOf, IsSame}
 use Rattle.tm_toggle.specs.declared.shared.SharedTable.{SharedTable}
 use Rattle.tm_toggle.specs.declared.sides.SharedClient.{SharedClient}
 use Rattle.tm_trustee.specs.Serving.{IsServing}
@@ -28,13 +28,18 @@ use Rattle.tm_trustee.proofs.TurningReady.{IsHome}
 use Rattle.tm_trustee.specs.declared.trustee.Trustee.{Trustee}
 use Rattle.bench_counters.specs.Counting.{config_of, first_of, counting, IsOfCounter, MayAsk}
 
-from : (a n : ℕ) → range_with_len a (n + 1) ≡ range_with_len a n ++ (a + n) ∷ []
-from a zero = ap (λ k. k ∷ []) (omega arith)
-from a (suc n) = ap (λ l. a ∷ l) (from (a + 1) n ∙ ap (λ k. range_with_len (a + 1) n ++ k ∷ []) (omega arith))
+from : (a n : ℕ) → range_with_len a (suc n) ≡ range_with_len a n ++ (a + n) ∷ []
+from a zero = let e : a ≡ a + 0 = omega arith in ap (λ k. k ∷ []) e
+from a (suc n) =
+    let e : (a + 1) + n ≡ a + suc n = omega arith in
+    ap (λ l. a ∷ l) (from (a + 1) n ∙ ap (λ k. range_with_len (a + 1) n ++ k ∷ []) e)
 
 -- the numbers below one more
 pub range_more : (n : ℕ) → range_with_len 0 (n + 1) ≡ range_with_len 0 n ++ n ∷ []
-range_more n = from 0 n ∙ ap (λ k. range_with_len 0 n ++ k ∷ []) (omega arith)
+range_more n =
+    let e : n + 1 ≡ suc n = omega arith in
+    let f : 0 + n ≡ n = omega arith in
+    ap (λ k. range_with_len 0 k) e ∙ from 0 n ∙ ap (λ k. range_with_len 0 n ++ k ∷ []) f
 
 built :
     (n : ℕ) → 1 ≤ n → n ≤ 3 → AllByRecursion (λ (f : First Counter). f.holders ≢ []) (first_of n)
@@ -165,8 +170,10 @@ carried table handle side same mine may =
     let opens : opening_at handle ≡ opening_at table = ap opening_by same.key in (
       record {
         mine = mine;
-        client = rw opens asked.client;
-        holds = rw opens asked.holds;
+        client =
+            subst (λ (o : State Counter CounterOp CounterReply CounterTask). (client_at side).place < o.setup.config.clients) (sym opens) asked.client;
+        holds =
+            subst (λ (o : State Counter CounterOp CounterReply CounterTask). 0 < holds_at o (client_at side).place 1) (sym opens) asked.holds;
         sent = asked.sent;
       },
       may.1,
