@@ -59,3 +59,4 @@ for exptime, name in [(0, "without expiry"), (100000, "with expiry")]:
         full, held = of_trustmc(program, stream(exptime, items))
         each = (full - empty) / held
         print(f"{name}: {program} {each:.0f} bytes an item ({held} items), {each / of_theirs:.2f} times; with no item {empty / 2**20:.1f} MiB in all")
+END
