@@ -15,7 +15,7 @@ use Rattle.tm_seq.specs.declared.counter.CounterTask.{CounterTask}
 use Rattle.tm_batch.specs.declared.config.First.{First}
 use Rattle.tm_batch.specs.declared.message.Name.{Name}
 use Rattle.tm_model.specs.State.{State, ids_above, holds_at}
-use Rattle.tm_model.specs.Opening.{is_named, IsBuildable, placed_on}
+use Rattle.tm_model.specs.Opening.{is_named, IsBuildable}
 use Rattle.tm_pair.specs.Theory.{Theory, IsNewClientOf, IsNewTable}
 use Rattle.tm_toggle.specs.Ruled.{opening_by}
 use Rattle.tm_toggle.specs.Shared.{opening_at, client_at, shared_theory, IsClientOf, IsSame}

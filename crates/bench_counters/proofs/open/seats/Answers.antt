@@ -1,7 +1,6 @@
 use Rattle.std.proofs.lemmas.List.Elements.{All-pop, All-push}
 use Rattle.std.specs.declared.option.Option.TheVariants.{Some}
 use Rattle.std.proofs.Common.{subst, sym}
-use Rattle.std.specs.Prelude.{All}
 use Rattle.tm_seq.specs.Counting.{counter_kind}
 use Rattle.tm_toggle.specs.Shared.{shared_theory}
 use Rattle.bench_counters.specs.Counting.{AreSeats, MayAsk}
