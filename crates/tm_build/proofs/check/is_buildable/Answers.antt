@@ -1,4 +1,4 @@
-use Rattle.std.proofs.Common.{◌≡◌, true, false, sym, ◌∙◌}
+use Rattle.std.proofs.Common.{sym, ◌∙◌}
 use Rattle.tm_build.proofs.Parts.{from_parts}
 use Rattle.tm_build.proofs.check.is_buildable.Goals as goal
 use Rattle.tm_build.proofs.check.is_buildable.Goals.{then-is_in_range, else-is_in_range, then-are_well_placed, else-are_well_placed}

@@ -1,4 +1,4 @@
-use Rattle.std.proofs.Common.{◌≡◌, ◌+◌, ◌∷◌, ◌++◌, suc, true, false, take, drop, slice_index_or, refl, sym, ◌∙◌, ap, subst, arith, take-append-drop, drop-cons}
+use Rattle.std.proofs.Common.{suc, take, drop, slice_index_or, sym, ◌∙◌, subst}
 use Rattle.std.specs.Prelude.{nat_eq}
 use Rattle.std.specs.List.{IsDistinct}
 use Rattle.std.proofs.lemmas.List.{take_more}
