@@ -1,4 +1,4 @@
-//! A table, call by call on one thread: one for one thread, and one for many.
+//! A table in one thread, call by call.
 ghost use Rattle.std.specs.Prelude.{◌≡◌, [], IsTrue};
 ghost use Rattle.tm_pair.specs.Views.{new_client, new_trustee};
 ghost use Rattle.tm_tests.specs.Sample.{sample};
@@ -13,7 +13,7 @@ use self::answering::{answer_gift, answer_grant, answer_two};
 use self::asking::{ask_gifts, ask_grant, ask_over, ask_two, the_name};
 use self::less::Less;
 use self::looking::{are_replies, asks, comes_empty, is_granted, is_one_gift};
-use self::start::{start, start_shared};
+use self::start::start;
 use std::process::Abort;
 use std::test::Fail;
 use tm_batch::{Batch, Request};
@@ -128,23 +128,6 @@ fn a_round_of_nothing_comes_back(rt: HostRuntime) -> Result<(), Fail> {
 #[test]
 fn a_gift_goes_to_the_other_client(rt: HostRuntime) -> Result<(), Fail> {
     let (mut table, mut clients, mut trustee) = start(rt.alloc())?;
-    let mut one = clients.remove(1);
-    let mut zero = clients.remove(0);
-    gift_goes(&rt, &mut table, &mut zero, &mut one, &mut trustee);
-    Ok(())
-}
-
-#[test]
-fn one_place_of_a_shared_table_call_by_call(rt: HostRuntime) -> Result<(), Fail> {
-    let (mut table, mut clients, mut trustee) = start_shared(rt.alloc())?;
-    let mut client = clients.remove(0);
-    one_place(&rt, &mut table, &mut client, &mut trustee);
-    Ok(())
-}
-
-#[test]
-fn a_gift_goes_through_a_shared_table(rt: HostRuntime) -> Result<(), Fail> {
-    let (mut table, mut clients, mut trustee) = start_shared(rt.alloc())?;
     let mut one = clients.remove(1);
     let mut zero = clients.remove(0);
     gift_goes(&rt, &mut table, &mut zero, &mut one, &mut trustee);

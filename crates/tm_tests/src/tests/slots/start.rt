@@ -2,22 +2,12 @@
 ghost use Rattle.std.specs.Prelude.{◌≡◌, IfOk};
 ghost use Rattle.tm_pair.specs.Theory.{IsNewTable};
 ghost use Rattle.tm_pair.specs.Plain.{plain_theory};
-ghost use Rattle.tm_toggle.specs.Shared.{shared_theory};
 ghost use Rattle.tm_tests.specs.Sample.{less_kind, sample, sample_first};
 
 use super::less::Less;
 use std::alloc::{AllocError, Global};
 use tm_batch::{Config, First, Holders};
 use tm_pair::{PlainClient, PlainTable, PlainTrustee};
-use tm_toggle::{SharedClient, SharedTable, SharedTrustee};
-
-const TWO_CLIENTS: Config = Config {
-    clients: 2,
-    trustees: 2,
-    objects: 4,
-    trusts: 4,
-    last_id: 9,
-};
 
 /// The object of the build, 4 to be taken away.
 fn first(alloc: Global) -> Result<Vec<First<Less>>, AllocError>
@@ -39,21 +29,12 @@ pub(super) fn start(
 ) -> Result<(PlainTable<Less>, Vec<PlainClient<Less>>, PlainTrustee<Less>), AllocError>
     ensures { IfOk result (λ r. IsNewTable (plain_theory (less_kind (λ v. v.by))) (sample (record { by = 4 })) r.0 r.1.items r.2) }
 {
-    PlainTable::new(alloc, 0, TWO_CLIENTS, &first(alloc)?)
-}
-
-/// The same for many threads.
-pub(super) fn start_shared(
-    alloc: Global,
-) -> Result<
-    (
-        SharedTable<Less>,
-        Vec<SharedClient<Less>>,
-        SharedTrustee<Less>,
-    ),
-    AllocError,
->
-    ensures { IfOk result (λ r. IsNewTable (shared_theory (less_kind (λ v. v.by))) (sample (record { by = 4 })) r.0 r.1.items r.2) }
-{
-    SharedTable::new(alloc, 0, TWO_CLIENTS, &first(alloc)?)
+    let config = Config {
+        clients: 2,
+        trustees: 2,
+        objects: 4,
+        trusts: 4,
+        last_id: 9,
+    };
+    PlainTable::new(alloc, 0, config, &first(alloc)?)
 }
