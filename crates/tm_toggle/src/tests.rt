@@ -9,13 +9,13 @@ ghost use Rattle.tm_pair.specs.Theory.{IsNewTable};
 ghost use Rattle.tm_toggle.specs.Shared.{opening_at, client_at, trustee_at, IsClientOf, IsTrusteeOf, IsSame, shared_theory};
 ghost use Rattle.tm_toggle.specs.Trying.{IsFirstClient, IsFirstOwner, trying};
 
-use crate::{Meet, Shareable, SharedClient, SharedTable, SharedTrustee, handles_share_sides};
+use crate::{Shareable, SharedClient, SharedTable, SharedTrustee, handles_share_sides};
 use std::alloc::{AllocError, Global};
 use std::sync::Wait;
 use std::test::Fail;
 use std::thread::{self, Threads};
 use tm_batch::{Config, First};
-use tm_pair::{Collected, PairTable, answer_nothing, ask_nothing};
+use tm_pair::{Collected, Meet, PairTable, answer_nothing, ask_nothing};
 use tm_seq::{Counter, Entrusted};
 
 const TWO: Config = Config {
