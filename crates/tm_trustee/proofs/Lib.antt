@@ -1,4 +1,9 @@
+mod Cases
 pub mod Elements
+pub mod Works
+pub mod Runs
+pub mod Fronts
+pub mod Replied
 pub mod Keeping
 pub mod AboveSteps
 pub mod AboveBye

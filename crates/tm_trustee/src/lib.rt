@@ -5,9 +5,11 @@
 #![tactic(auto)]
 
 mod above;
+mod lane;
 mod places;
 mod served;
 mod stage;
+mod tasks;
 mod trustee;
 
 pub use served::Served;

@@ -1,0 +1,27 @@
+-- The front of a list, an element at a time.
+use Rattle.std.proofs.Common.{◌≡◌, ℕ, zero, suc, ◌+◌, ◌<◌, List, [], ◌∷◌, ◌++◌, take, drop, length, slice_index_or, refl, sym, ◌∙◌, ap, arith}
+use Rattle.std.specs.Prelude.{remove}
+
+module _ {X : Type 0} where
+  front_longer : (n : ℕ) (xs : List X) → take n xs ++ take 1 (drop n xs) ≡ take (suc n) xs
+  front_longer zero [] = refl
+  front_longer zero (x ∷ xs) = refl
+  front_longer (suc n) [] = refl
+  front_longer (suc n) (x ∷ xs) = ap (λ l. x ∷ l) (front_longer n xs)
+
+  rest_shorter : (n : ℕ) (xs : List X) → drop 1 (drop n xs) ≡ drop (suc n) xs
+  rest_shorter zero [] = refl
+  rest_shorter zero (x ∷ xs) = refl
+  rest_shorter (suc n) [] = refl
+  rest_shorter (suc n) (x ∷ xs) = rest_shorter n xs
+
+  pub front_more : (n : ℕ) (xs : List X) → take n xs ++ take 1 (drop n xs) ≡ take (n + 1) xs
+  front_more n xs = let next : suc n ≡ n + 1 = omega arith in front_longer n xs ∙ ap (λ m. take m xs) next
+
+  pub rest_less : (n : ℕ) (xs : List X) → drop 1 (drop n xs) ≡ drop (n + 1) xs
+  rest_less n xs = let next : suc n ≡ n + 1 = omega arith in rest_shorter n xs ∙ ap (λ m. drop m xs) next
+
+  -- the first that was removed, and the rest, are all
+  pub removed : (xs ys : List X) (x : X) → 0 < length xs → x ≡ slice_index_or xs 0 x → ys ≡ remove xs 0 → xs ≡ x ∷ ys
+  removed [] ys x lt is e = absurd (omega (arith, lt))
+  removed (y ∷ xs) ys x lt is e = rw e (ap (λ z. z ∷ xs) (sym is))

@@ -1,0 +1,158 @@
+-- The replies among answers, and the applies among requests.
+use Rattle.std.proofs.Common.{◌≡◌, ℕ, ◌+◌, ◌≤◌, ◌<◌, ◌⊎◌, true, false, List, [], ◌∷◌, ◌++◌, length, map, take, drop, inl, inr, refl, sym, ◌∙◌, ap, subst, arith, append_assoc, length-append}
+use Rattle.std.specs.List.{AllByRecursion, AllZip}
+use Rattle.tm_batch.specs.declared.message.Request.{Request}
+use Rattle.tm_batch.specs.declared.message.Request.TheVariants.{Entrust, Apply, Launch, Grant, Release, Reclaim, Bye}
+use Rattle.tm_batch.specs.declared.message.Answer.{Answer}
+use Rattle.tm_batch.specs.declared.message.Answer.TheVariants.{Entrusted, NotEntrusted, Replied, Launched, TicketsSpent, Granted, Gone, GiftsFull, Released, Reclaimed, Shared, ByeDone}
+use Rattle.tm_model.specs.Fits.{Fits}
+use Rattle.tm_model.specs.Holds.{has_bye}
+use Rattle.tm_model.specs.Orderly.{IsOfTrustee}
+use Rattle.tm_model.specs.Lists.{IsPrefix}
+use Rattle.tm_trustee.specs.NestedAsks.{asked_by}
+use Rattle.tm_trustee.specs.Above.{IsApply}
+use Rattle.tm_trustee.specs.Lanes.{replied_in, AppliesAmong, EndsInBye}
+
+module _ {V O R T : Type 0} where
+  abbrev Qs : Type 0
+  Qs = List (Request V O R T)
+
+  abbrev As : Type 0
+  As = List (Answer V O R T)
+
+  pub replied_first : (a : Answer V O R T) (as : As) → replied_in (a ∷ as) ≡ replied_in (a ∷ []) ++ replied_in as
+  replied_first (Replied r) as = refl
+  replied_first (Entrusted n) as = refl
+  replied_first (NotEntrusted w v) as = refl
+  replied_first (Launched t) as = refl
+  replied_first (TicketsSpent t) as = refl
+  replied_first Granted as = refl
+  replied_first Gone as = refl
+  replied_first GiftsFull as = refl
+  replied_first Released as = refl
+  replied_first (Reclaimed v) as = refl
+  replied_first Shared as = refl
+  replied_first ByeDone as = refl
+
+  pub replied_one : (a : Answer V O R T) → length (replied_in (a ∷ [])) ≤ 1
+  replied_one (Replied r) = omega arith
+  replied_one (Entrusted n) = omega arith
+  replied_one (NotEntrusted w v) = omega arith
+  replied_one (Launched t) = omega arith
+  replied_one (TicketsSpent t) = omega arith
+  replied_one Granted = omega arith
+  replied_one Gone = omega arith
+  replied_one GiftsFull = omega arith
+  replied_one Released = omega arith
+  replied_one (Reclaimed v) = omega arith
+  replied_one Shared = omega arith
+  replied_one ByeDone = omega arith
+
+  pub replied_in-append : (xs ys : As) → replied_in (xs ++ ys) ≡ replied_in xs ++ replied_in ys
+  replied_in-append [] ys = refl
+  replied_in-append (a ∷ xs) ys =
+      replied_first a (xs ++ ys) ∙ ap (λ l. replied_in (a ∷ []) ++ l) (replied_in-append xs ys)
+      ∙ sym (append_assoc (replied_in (a ∷ [])) (replied_in xs) (replied_in ys)) ∙ ap (λ l. l ++ replied_in ys) (sym (replied_first a xs))
+
+  -- one more answer was noted
+  pub noting :
+      (before came now all : List R) (answers rest : As) (a : Answer V O R T) → answers ≡ a ∷ rest → now ≡ came ++ replied_in (a ∷ [])
+      → came ++ replied_in answers ≡ all → now ++ replied_in rest ≡ all
+  noting before came now all answers rest a is more e =
+      ap (λ l. l ++ replied_in rest) more ∙ append_assoc came (replied_in (a ∷ [])) (replied_in rest)
+      ∙ ap (λ l. came ++ l) (sym (replied_first a rest) ∙ sym (ap replied_in is)) ∙ e
+
+  pub noting_room :
+      (came now : List R) (answers rest : As) (a : Answer V O R T) (room : ℕ) → answers ≡ a ∷ rest → now ≡ came ++ replied_in (a ∷ [])
+      → length came + length answers ≤ room → length now + length rest ≤ room
+  noting_room came now answers rest a room is more le =
+      let one = replied_one a in
+      let all : length answers ≡ 1 + length rest = ap (λ l. length l) is in
+      let both : length now ≡ length came + length (replied_in (a ∷ [])) = ap (λ l. length l) more ∙ length-append came (replied_in (a ∷ [])) in
+      omega (arith, one, all, both, le)
+
+  asked_first : (q : Request V O R T) (qs : Qs) → asked_by (q ∷ qs) ≡ asked_by (q ∷ []) ++ asked_by qs
+  asked_first (Apply n op) qs = refl
+  asked_first (Entrust v) qs = refl
+  asked_first (Launch n t) qs = refl
+  asked_first (Grant n d) qs = refl
+  asked_first (Release n) qs = refl
+  asked_first (Reclaim n) qs = refl
+  asked_first Bye qs = refl
+
+  pub asked_by-append : (xs ys : Qs) → asked_by (xs ++ ys) ≡ asked_by xs ++ asked_by ys
+  asked_by-append [] ys = refl
+  asked_by-append (q ∷ xs) ys =
+      asked_first q (xs ++ ys) ∙ ap (λ l. asked_by (q ∷ []) ++ l) (asked_by-append xs ys)
+      ∙ sym (append_assoc (asked_by (q ∷ [])) (asked_by xs) (asked_by ys)) ∙ ap (λ l. l ++ asked_by ys) (sym (asked_first q xs))
+
+  -- no more replies come than applies were run
+  pub replied_few : (qs : Qs) (as : As) → AllZip Fits qs as → length (replied_in as) ≤ length (asked_by qs)
+  replied_few [] [] fits = omega arith
+  replied_few [] (a ∷ as) fits = absurd fits
+  replied_few (q ∷ qs) [] fits = absurd fits
+  replied_few (Apply n op ∷ qs) (Replied r ∷ as) fits = let more = replied_few qs as fits.1 in omega (arith, more)
+  replied_few (Entrust v ∷ qs) (Entrusted n ∷ as) fits = replied_few qs as fits.1
+  replied_few (Entrust v ∷ qs) (NotEntrusted w b ∷ as) fits = replied_few qs as fits.1
+  replied_few (Launch n t ∷ qs) (Launched k ∷ as) fits = replied_few qs as fits.1
+  replied_few (Launch n t ∷ qs) (TicketsSpent b ∷ as) fits = replied_few qs as fits.1
+  replied_few (Grant n d ∷ qs) (Granted ∷ as) fits = replied_few qs as fits.1
+  replied_few (Grant n d ∷ qs) (Gone ∷ as) fits = replied_few qs as fits.1
+  replied_few (Grant n d ∷ qs) (GiftsFull ∷ as) fits = replied_few qs as fits.1
+  replied_few (Release n ∷ qs) (Released ∷ as) fits = replied_few qs as fits.1
+  replied_few (Reclaim n ∷ qs) (Reclaimed v ∷ as) fits = replied_few qs as fits.1
+  replied_few (Reclaim n ∷ qs) (Shared ∷ as) fits = replied_few qs as fits.1
+  replied_few (Bye ∷ qs) (ByeDone ∷ as) fits = replied_few qs as fits.1
+  replied_few (q ∷ qs) (a ∷ as) fits = absurd fits.0
+
+  behind : (q : Request V O R T) (qs : Qs) → IsApply q → has_bye (q ∷ qs) ≡ false → has_bye qs ≡ false
+  behind (Apply n op) qs apply e = e
+  behind (Entrust v) qs apply e = absurd apply
+  behind (Launch n t) qs apply e = absurd apply
+  behind (Grant n d) qs apply e = absurd apply
+  behind (Release n) qs apply e = absurd apply
+  behind (Reclaim n) qs apply e = absurd apply
+  behind Bye qs apply e = absurd apply
+
+  -- what stands behind an apply in requests of which the last alone is a Bye
+  apply_ends : (q : Request V O R T) (qs : Qs) → IsApply q → EndsInBye (q ∷ qs) → EndsInBye qs
+  apply_ends q qs apply ([], e, none) = let is : q ≡ Bye = cc in absurd (subst IsApply is apply)
+  apply_ends q qs apply (p ∷ ps, e, none) =
+      let same : p ≡ q = cc in
+      let rest : qs ≡ ps ++ Bye ∷ [] = cc in
+      (ps, rest, behind p ps (subst IsApply (sym same) apply) none)
+
+  apply_last : (q : Request V O R T) (qs : Qs) → IsApply q → (has_bye (q ∷ qs) ≡ false) ⊎ EndsInBye (q ∷ qs) → (has_bye qs ≡ false) ⊎ EndsInBye qs
+  apply_last q qs apply (inl none) = inl (behind q qs apply none)
+  apply_last q qs apply (inr ends) = inr (apply_ends q qs apply ends)
+
+  bye_alone : (qs : Qs) → (has_bye (Bye ∷ qs) ≡ false) ⊎ EndsInBye (Bye ∷ qs) → qs ≡ []
+  bye_alone qs (inl none) = absurd cc
+  bye_alone qs (inr ([], e, none)) = let is : qs ≡ [] = cc in is
+  bye_alone qs (inr (p ∷ ps, e, none)) =
+      let same : p ≡ Bye = cc in absurd (let bad : has_bye (Bye ∷ ps) ≡ false = subst (λ x. has_bye (x ∷ ps) ≡ false) same none in cc)
+
+  no_answers : (qs : Qs) (as : As) → qs ≡ [] → AllZip Fits qs as → as ≡ []
+  no_answers [] [] e fits = refl
+  no_answers [] (a ∷ as) e fits = absurd fits
+  no_answers (q ∷ qs) as e fits = absurd cc
+
+  -- where all are applies each answer is a reply, and a Bye behind them has one more
+  pub replied_all :
+      (qs : Qs) (as : As) → AllByRecursion IsOfTrustee qs → (has_bye qs ≡ false) ⊎ EndsInBye qs → AllZip Fits qs as
+      → IsPrefix (map (λ r. Replied r) (replied_in as)) as
+  replied_all [] [] all last fits = ([], refl)
+  replied_all [] (a ∷ as) all last fits = absurd fits
+  replied_all (q ∷ qs) [] all last fits = absurd fits
+  replied_all (Apply n op ∷ qs) (Replied r ∷ as) all last fits =
+      let (rest, e) = replied_all qs as all.1 (apply_last (Apply n op) qs tt last) fits.1 in (rest, ap (λ l. Replied r ∷ l) e)
+  replied_all (Bye ∷ qs) (ByeDone ∷ as) all last fits =
+      let none : as ≡ [] = no_answers qs as (bye_alone qs last) fits.1 in
+      subst (λ l. IsPrefix (map (λ r. Replied r) (replied_in (ByeDone ∷ l))) (ByeDone ∷ l)) (sym none) (ByeDone ∷ [], refl)
+  replied_all (Entrust v ∷ qs) (a ∷ as) all last fits = absurd all.0
+  replied_all (Launch n t ∷ qs) (a ∷ as) all last fits = absurd all.0
+  replied_all (Grant n d ∷ qs) (a ∷ as) all last fits = absurd all.0
+  replied_all (Release n ∷ qs) (a ∷ as) all last fits = absurd all.0
+  replied_all (Reclaim n ∷ qs) (a ∷ as) all last fits = absurd all.0
+  replied_all (Apply n op ∷ qs) (a ∷ as) all last fits = absurd fits.0
+  replied_all (Bye ∷ qs) (a ∷ as) all last fits = absurd fits.0

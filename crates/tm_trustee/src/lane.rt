@@ -1,0 +1,134 @@
+//! What a trustee keeps of a greater one.
+ghost use Rattle.std.specs.Prelude.{◌≡◌, ◌+◌, ◌^◌, ◌<◌, ◌≤◌, [], ◌∷◌, ◌++◌, length, take, drop, map, filter, ◌==◌, IfOk};
+ghost use Rattle.tm_batch.specs.declared.limits.TheConstants.{MOST_REQUESTS};
+ghost use Rattle.tm_trustee.specs.Lanes.{IsNewLane, AreNewLanes, replied_in, TakesIn, LetsGo};
+
+use crate::stage::Stage;
+use std::alloc::{AllocError, Global};
+use circular_buffer::HeapCircularBuffer;
+use tm_batch::{Answer, AnswerBatch, Batch, FitsAnswers, MOST_REQUESTS, Name, Request};
+use tm_seq::Entrusted;
+
+/// What a trustee keeps of a greater one.
+#[derive(Drop)]
+pub(crate) struct Lane<S: Entrusted> {
+    /// How far it is with its `Bye` there.
+    pub(crate) stage: Stage,
+    /// The objects that it holds there, in the order of the build.
+    pub(crate) names: Vec<Name>,
+    /// Of each ask that was not told its reply, in order, the object whose work asked.
+    pub(crate) askers: HeapCircularBuffer<Name>,
+    /// The asks that were not sent, in order.
+    pub(crate) waits: HeapCircularBuffer<Request<S>>,
+    /// The replies that came and were not told, in order.
+    pub(crate) came: HeapCircularBuffer<S::Reply>,
+}
+
+/// The names of those objects that are of trustee `number`, in order.
+fn names_at(
+    alloc: Global,
+    number: u32,
+    nested: &[(u32, Name)],
+) -> Result<Vec<Name>, AllocError>
+    ensures { IfOk result (λ names. names.items ≡ map (λ n. n.1) (filter (λ n. n.0 == number) nested.now)) }
+{
+    nested
+        .iter()
+        .filter(|n| n.0 == number)
+        .map(|n| n.1)
+        .collect(alloc)
+}
+
+/// What a trustee keeps at first of so many greater ones, the trustees `number` and on.
+pub(crate) fn new_lanes<S: FitsAnswers>(
+    alloc: Global,
+    number: u32,
+    count: usize,
+    room: u32,
+    nested: &[(u32, Name)],
+) -> Result<Vec<Lane<S>>, AllocError>
+    requires { number + count < 2 ^ 32 }
+    ensures { IfOk result (λ lanes. AreNewLanes number room nested.now count lanes.items) }
+{
+    let mut lanes = Vec::with_capacity(alloc, count)?;
+    for i in 0..count {
+        lanes.push_reserved(Lane::new(alloc, number + i as u32, room, nested)?);
+    }
+    Ok(lanes)
+}
+
+/// Moves the first request that waits, if one does, behind those of a batch that has room.
+fn take_one<S: FitsAnswers>(waits: &mut HeapCircularBuffer<Request<S>>, batch: &mut Batch<S>)
+    requires { length batch.old.requests.items < MOST_REQUESTS }
+    ensures requests { batch.new.requests.items ≡ batch.old.requests.items ++ take 1 waits.old.items }
+    ensures room { batch.new.room ≡ batch.old.room }
+    ensures rest { waits.new.items ≡ drop 1 waits.old.items }
+    ensures capacity { waits.new.capacity ≡ waits.old.capacity }
+{
+    let Some(request) = waits.pop_front() else {
+        return;
+    };
+    let _ = batch.push(request);
+}
+
+impl<S: FitsAnswers> Lane<S> {
+    /// What a trustee keeps at first of trustee `number`, of the objects that it holds above, with room for so many
+    /// asks.
+    fn new(
+        alloc: Global,
+        number: u32,
+        room: u32,
+        nested: &[(u32, Name)],
+    ) -> Result<Lane<S>, AllocError>
+        ensures { IfOk result (λ lane. IsNewLane number room nested.now lane) }
+    {
+        Ok(Lane {
+            stage: Stage::Before,
+            names: names_at(alloc, number, nested)?,
+            askers: HeapCircularBuffer::with_capacity(alloc, room as usize)?,
+            waits: HeapCircularBuffer::with_capacity(alloc, room as usize)?,
+            came: HeapCircularBuffer::with_capacity(alloc, MOST_REQUESTS)?,
+        })
+    }
+
+    /// A batch of the first asks that wait, at most 16, which wait no more. It has no room for gifts.
+    pub(crate) fn first_asks(&mut self) -> Batch<S>
+        ensures goes { LetsGo result.requests.items self.old self.new }
+        ensures room { result.room ≡ 0 }
+    {
+        let mut batch = Batch::new(0);
+        for _ in 0..MOST_REQUESTS {
+            take_one(&mut self.waits, &mut batch);
+        }
+        batch
+    }
+
+    /// Notes an answer: a reply is to be told.
+    fn note(&mut self, answer: Answer<S>)
+        requires { length self.old.came.items < self.old.came.capacity }
+        ensures only { self.new ≡ record self.old { came = self.new.came } }
+        ensures came { self.new.came.items ≡ self.old.came.items ++ replied_in (answer ∷ []) }
+        ensures capacity { self.new.came.capacity ≡ self.old.came.capacity }
+    {
+        if let Answer::Replied(reply) = answer {
+            let _ = self.came.try_push_back(reply);
+        }
+    }
+
+    /// Takes in the answers to what was out: the replies are to be told, and a `Bye` that was out is over.
+    pub(crate) fn take_in(&mut self, came: AnswerBatch<S>)
+        requires told { self.old.came.items ≡ [] }
+        requires room { self.old.came.capacity ≡ MOST_REQUESTS }
+        requires few { length came.answers.items ≤ MOST_REQUESTS }
+        ensures { TakesIn came.answers.items self.old self.new }
+    {
+        let mut answers = came.answers;
+        while !answers.is_empty() {
+            let answer = answers.remove(0);
+            self.note(answer);
+        }
+        if self.stage == Stage::Out {
+            self.stage = Stage::Over;
+        }
+    }
+}
