@@ -1,5 +1,5 @@
 -- What the launched work of a trustee awaits, after all that it has done.
-use Rattle.std.specs.Prelude.{◌≡◌, ℕ, nat_eq, ◌+◌, ◌<◌, ◌⊎◌, true, List, [], ◌∷◌, length, map}
+use Rattle.std.specs.Prelude.{◌≡◌, ℕ, nat_eq, ◌+◌, ◌<◌, ◌≤◌, ◌⊎◌, true, List, [], ◌∷◌, length, map}
 use Rattle.std.specs.List.{AllByRecursion, IsDistinct}
 use Rattle.tm_seq.specs.Kind.{Kind}
 use Rattle.tm_model.specs.declared.entry.Entry.{Entry}
@@ -8,7 +8,7 @@ use Rattle.tm_model.specs.Serve.{state_after}
 use Rattle.tm_model.specs.Legal.{HasFirst}
 use Rattle.tm_model.specs.Holds.{has_bye, unfinished}
 use Rattle.tm_model.specs.Ran.{ran}
-use Rattle.tm_trustee.specs.NestedAsks.{NestedAsk, works_at, pending_of, IsAmong}
+use Rattle.tm_trustee.specs.NestedAsks.{NestedAsk, works_at, asks_of, replies_of, pending_of, IsAmong}
 
 -- launched work awaits the reply to an ask of an object that is held at trustee u
 abbrev pub IsAskAt : Setup → ℕ → Awaits → Type 0
@@ -35,7 +35,11 @@ module _ {V O R T : Type 0} where
         → AllByRecursion
         (λ a. HasFirst (works_at (state_after kind opening done) a.by) (λ w. (w.ticket ≡ a.ticket) × IsAskAt opening.setup u w.awaits))
         (pending_of kind opening u done)
-    -- of each object one ask is pending at most
+    -- no launch behind the first of its object has begun
+    pub behind : (id : ℕ) (w : Work T) (ws : List (Work T)) → works_at (state_after kind opening done) id ≡ w ∷ ws
+        → AllByRecursion (λ x. x.awaits ≡ Start) ws
+    -- no more replies were told than asks were made, and of each object one ask is pending at most
+    pub enough : (u : ℕ) → opening.setup.number < u → length (replies_of kind opening u done) ≤ length (asks_of opening.setup u done)
     pub once : (u : ℕ) → opening.setup.number < u → IsDistinct nat_eq (map (λ a. a.by) (pending_of kind opening u done))
 
   -- by a log a place that said Bye has no launch that has not ended, and no completion that is ready

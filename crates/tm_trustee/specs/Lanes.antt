@@ -1,6 +1,6 @@
 -- What a trustee keeps of a greater one.
 use Rattle.std.specs.Prelude.{◌≡◌, ◌≢◌, ℕ, ◌+◌, ◌≤◌, ◌⊎◌, ◌==◌, false, List, [], ◌∷◌, ◌++◌, length, map, filter, take, drop, slice_get}
-use Rattle.std.specs.List.{AllByRecursion}
+use Rattle.std.specs.List.{AllByRecursion, AllZip}
 use Rattle.std.specs.declared.option.Option.TheVariants.{Some}
 use Rattle.circular_buffer.specs.Buffer.{buffer}
 use Rattle.tm_seq.specs.Kind.{Kind}
@@ -13,10 +13,14 @@ use Rattle.tm_batch.specs.declared.message.Answer.TheVariants.{Replied}
 use Rattle.tm_model.specs.declared.entry.Entry.{Entry}
 use Rattle.tm_model.specs.State.{State, ids_above}
 use Rattle.tm_model.specs.Holds.{has_bye}
+use Rattle.tm_model.specs.Serve.{state_after}
+use Rattle.tm_model.specs.Legal.{HasFirst}
 use Rattle.tm_model.specs.Lists.{IsPrefix}
 use Rattle.tm_model.specs.Ran.{answered}
+use Rattle.tm_latch.specs.declared.ticket.Ticket.{Ticket}
+use Rattle.tm_state.specs.Launches.{Pending, work_of}
 use Rattle.tm_pair.specs.Views.{BatchView, ClientView}
-use Rattle.tm_trustee.specs.NestedAsks.{target, asks_of, replies_of, pending_of, asked_by, IsAmong}
+use Rattle.tm_trustee.specs.NestedAsks.{NestedAsk, target, asks_of, replies_of, pending_of, works_at, asked_by, IsAmong}
 use Rattle.tm_trustee.specs.declared.stage.Stage.{Stage}
 use Rattle.tm_trustee.specs.declared.stage.Stage.TheVariants.{Before, Out, Over}
 use Rattle.tm_trustee.specs.declared.lane.Lane.{Lane}
@@ -37,6 +41,10 @@ module _ {V O R T : Type 0} where
   abbrev pub EndsInBye : List (Request V O R T) → Type 0
   EndsInBye sent = (qs : List (Request V O R T)) × (sent ≡ qs ++ Bye ∷ []) × (has_bye qs ≡ false)
 
+  -- a launch that was handed out is the first of its object, and made an ask
+  abbrev pub IsAsker : State V O R T → Ticket (Pending T) → NestedAsk O → Type 0
+  IsAsker s t a = (t.id ≡ a.by) × HasFirst (works_at s t.id) (λ w. w ≡ work_of t)
+
   -- what a lane has is what the work of a trustee that has done so much asked of trustee u and was told, by what its side there stands for
   pub record IsLane (kind : Kind V O R T) (opening : State V O R T) (done : List (Entry V O R T)) (u : ℕ) (up : ClientView V O R T)
       (lane : Lane V O R T) : Type 0 where
@@ -53,9 +61,9 @@ module _ {V O R T : Type 0} where
     pub answers : ((up.sent ≡ []) × (replies_of kind opening u done ≡ []) × (lane.came.items ≡ []))
         ⊎ (map (λ t. t.reply) (replies_of kind opening u done) ++ lane.came.items ≡ replied_in (answered up.place up.seen))
     pub due : length (replies_of kind opening u done) + length lane.came.items ≤ length (asked_by up.sent)
-    -- each was told to the ticket that made the ask, and the askers of the others are known in order
+    -- each was told to the ticket that made the ask, and it has the launches that made the others, in order
     pub tickets : IsPrefix (map (λ t. t.ticket) (replies_of kind opening u done)) (map (λ a. a.ticket) (asks_of opening.setup u done))
-    pub askers : map (λ n. n.id) lane.askers.items ≡ map (λ a. a.by) (pending_of kind opening u done)
+    pub askers : AllZip (IsAsker (state_after kind opening done)) lane.askers.items (pending_of kind opening u done)
     -- there is room for an ask of each object, and for the replies to a batch
     pub askers_room : lane.askers.capacity ≡ opening.setup.config.objects
     pub waits_room : lane.waits.capacity ≡ opening.setup.config.objects

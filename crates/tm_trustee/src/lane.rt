@@ -8,6 +8,7 @@ use std::alloc::{AllocError, Global};
 use circular_buffer::HeapCircularBuffer;
 use tm_batch::{Answer, AnswerBatch, Batch, FitsAnswers, MOST_REQUESTS, Name, Request};
 use tm_seq::Entrusted;
+use tm_state::Launch;
 
 /// What a trustee keeps of a greater one.
 #[derive(Drop)]
@@ -16,8 +17,8 @@ pub(crate) struct Lane<S: Entrusted> {
     pub(crate) stage: Stage,
     /// The objects that it holds there, in the order of the build.
     pub(crate) names: Vec<Name>,
-    /// Of each ask that was not told its reply, in order, the object whose work asked.
-    pub(crate) askers: HeapCircularBuffer<Name>,
+    /// Of each ask that was not told its reply, in order, the launch that asked.
+    pub(crate) askers: HeapCircularBuffer<Launch<S>>,
     /// The asks that were not sent, in order.
     pub(crate) waits: HeapCircularBuffer<Request<S>>,
     /// The replies that came and were not told, in order.
