@@ -1,10 +1,11 @@
 -- What launched work does when it goes on.
 use Rattle.std.specs.Prelude.{◌≡◌, ℕ, ◌+◌, ◌-◌, ◌^◌, ◌<◌, ◌≤◌, ◌⊎◌, min, List, [], ◌∷◌, ◌++◌, length, slice_index_or, slice_set}
 use Rattle.std.specs.List.{AllByRecursion}
+use Rattle.std.specs.declared.option.Option.{Option}
 use Rattle.std.specs.declared.option.Option.TheVariants.{None, Some}
 use Rattle.tm_seq.specs.Kind.{Kind, IsResume}
 use Rattle.tm_seq.specs.declared.kind.Event.{Event}
-use Rattle.tm_seq.specs.declared.kind.Event.TheVariants.{NotAbove, NoObject}
+use Rattle.tm_seq.specs.declared.kind.Event.TheVariants.{Begin, Reply, NotAbove, NoObject}
 use Rattle.tm_seq.specs.declared.kind.Next.{Next}
 use Rattle.tm_seq.specs.declared.kind.Next.TheVariants.{Ask, Done}
 use Rattle.tm_batch.specs.declared.message.Completion.{Completion}
@@ -31,6 +32,14 @@ AreHeld setup held = (u : ℕ) → slice_index_or held u 0 ≡ length (ids_above
 -- object x of those that trustee `number` holds at trustee u is one above it
 abbrev pub IsHeldAbove : ℕ → List ℕ → ℕ → ℕ → Type 0
 IsHeldAbove number held u x = (number < u) × (x < slice_index_or held u 0)
+
+-- what a task that asks object x of trustee u is told at once: nothing, where it is held above
+abbrev pub IsToldAtOnce : {R : Type 0} → ℕ → List ℕ → ℕ → ℕ → Option (Event R) → Type 0
+IsToldAtOnce number held u x None = IsHeldAbove number held u x
+IsToldAtOnce number held u x (Some Begin) = ⊥
+IsToldAtOnce number held u x (Some (Reply r)) = ⊥
+IsToldAtOnce number held u x (Some NotAbove) = u ≤ number
+IsToldAtOnce number held u x (Some NoObject) = (number < u) × (slice_index_or held u 0 ≤ x)
 
 -- the entry of a resume by which a task was told the first of some events
 abbrev pub entry_of : {V O R T : Type 0} → ℕ → ℕ → List (Event R) → Next O T R → List (Entry V O R T)

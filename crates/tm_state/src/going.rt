@@ -1,7 +1,9 @@
 //! A task goes on.
-ghost use Rattle.std.specs.Prelude.{◌≡◌, ℕ, ◌+◌, ◌-◌, ◌^◌, [], ◌∷◌, ◌++◌, List, length, min, slice_index_or};
+ghost use Rattle.std.specs.Prelude.{◌≡◌, ◌+◌, ◌-◌, ◌^◌, [], ◌∷◌, ◌++◌, List, length, min, slice_index_or};
 ghost use Rattle.tm_model.specs.declared.entry.Entry.{Entry};
-ghost use Rattle.tm_state.specs.Resuming.{Continues, Makes, entry_of};
+ghost use Rattle.tm_model.specs.declared.entry.Entry.TheVariants.{Resume};
+ghost use Rattle.tm_seq.specs.Kind.{IsResume};
+ghost use Rattle.tm_state.specs.Resuming.{Continues, Makes, IsToldAtOnce, entry_of};
 
 use crate::launch::Launch;
 use crate::made::Made;
@@ -29,36 +31,66 @@ pub(crate) fn go_on<S: Entrusted>(
         ticket,
         waiting,
     } = launch;
-    let mut task = waiting.task;
+    let mut task = waiting.into_task();
     let mut event = event;
     loop {
-        let told = note(&event);
-        let next = value.resume(task, event);
-        made.entries = after_resume(&made.entries, id, ticket, &told, &next);
-        made.count = made.count.saturating_add(1);
-        *entries = entries.saturating_add(1);
-        let Next::Ask {
-            trustee,
-            index,
-            op,
-            task: after,
-        } = next
-        else {
-            return next;
-        };
-        event = if trustee <= number {
-            Event::NotAbove
-        } else if index >= held_at(held, trustee) {
-            Event::NoObject
-        } else {
-            return Next::Ask {
+        match resume_once(value, id, ticket, task, event, made, entries) {
+            Next::Done { reply } => return Next::Done { reply },
+            Next::Ask {
                 trustee,
                 index,
                 op,
                 task: after,
-            };
-        };
-        task = after;
+            } => match told_at_once(number, held, trustee, index) {
+                None => {
+                    return Next::Ask {
+                        trustee,
+                        index,
+                        op,
+                        task: after,
+                    };
+                }
+                Some(told) => {
+                    task = after;
+                    event = told;
+                }
+            },
+        }
+    }
+}
+
+// Tells a task an event, and notes what it did.
+fn resume_once<S: Entrusted>(
+    value: &mut S,
+    id: u64,
+    ticket: u64,
+    task: S::Task,
+    event: Event<S::Reply>,
+    made: &mut Made<S>,
+    entries: &mut u64,
+) -> Next<S::Op, S::Task, S::Reply>
+    ensures lawful { IsResume S.kind value.old task event value.new result }
+    ensures made { Makes (Resume id ticket event result ∷ []) made.old made.new }
+    ensures entries { entries.new ≡ min (entries.old + 1) (2 ^ 64 - 1) }
+{
+    let told = note(&event);
+    let next = value.resume(task, event);
+    made.entries = after_resume(&made.entries, id, ticket, &told, &next);
+    made.count = made.count.saturating_add(1);
+    *entries = entries.saturating_add(1);
+    next
+}
+
+// What a task is told at once of its ask, if it does not ask an object that is held above.
+fn told_at_once<R>(number: u32, held: &[u32], trustee: u32, index: u32) -> Option<Event<R>>
+    ensures { IsToldAtOnce number held.now trustee index result }
+{
+    if trustee <= number {
+        Some(Event::NotAbove)
+    } else if index >= held_at(held, trustee) {
+        Some(Event::NoObject)
+    } else {
+        None
     }
 }
 

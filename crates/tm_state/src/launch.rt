@@ -41,6 +41,15 @@ impl<S: Entrusted> Model for Waiting<S> {
     ghost view = { λ a. record { place = a.place; task = a.task; awaits = awaits_of a.until } };
 }
 
+impl<S: Entrusted> Waiting<S> {
+    /// The task that goes on.
+    pub(crate) fn into_task(self) -> S::Task
+        ensures { result ≡ self.task }
+    {
+        self.task
+    }
+}
+
 /// A launch that has not ended, with the task that goes on.
 ///
 /// A [`TrusteeState`](crate::TrusteeState) hands one out with each ask, and takes it back with the reply.

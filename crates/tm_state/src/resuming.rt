@@ -1,5 +1,5 @@
 //! Launched work goes on.
-ghost use Rattle.std.specs.Prelude.{◌≡◌, ◌+◌, ◌<◌, ◌≤◌, ◌++◌, List, length, None, Some, IsSome, IfSome, IfNone, slice_index_or};
+ghost use Rattle.std.specs.Prelude.{◌≡◌, ◌+◌, ◌<◌, ◌≤◌, [], List, length, None, Some, IsSome, IfSome, IfNone, slice_index_or};
 ghost use Rattle.tm_batch.specs.declared.limits.TheConstants.{WINDOW};
 ghost use Rattle.tm_latch.specs.declared.ticket.Ticket.{Ticket};
 ghost use Rattle.tm_latch.specs.Tickets.{first_of};
