@@ -1,7 +1,9 @@
 mod Cases
 pub mod Elements
+pub mod Among
 pub mod Works
 pub mod Runs
+pub mod Awaited
 pub mod Fronts
 pub mod Replied
 pub mod Keeping

@@ -9,18 +9,10 @@ use Rattle.tm_model.specs.Fits.{Fits}
 use Rattle.tm_model.specs.Holds.{has_bye}
 use Rattle.tm_model.specs.Orderly.{IsOfTrustee}
 use Rattle.tm_model.specs.Lists.{IsPrefix}
-use Rattle.tm_trustee.specs.NestedAsks.{asked_by}
-use Rattle.tm_trustee.specs.Above.{IsApply}
-use Rattle.tm_trustee.specs.Lanes.{replied_in, AppliesAmong, EndsInBye}
+use Rattle.tm_trustee.specs.NestedAsks.{asked_by, IsApply, replied_in, EndsInBye}
 
 module _ {V O R T : Type 0} where
-  abbrev Qs : Type 0
-  Qs = List (Request V O R T)
-
-  abbrev As : Type 0
-  As = List (Answer V O R T)
-
-  pub replied_first : (a : Answer V O R T) (as : As) → replied_in (a ∷ as) ≡ replied_in (a ∷ []) ++ replied_in as
+  pub replied_first : (a : Answer V O R T) (as : List (Answer V O R T)) → replied_in (a ∷ as) ≡ replied_in (a ∷ []) ++ replied_in as
   replied_first (Replied r) as = refl
   replied_first (Entrusted n) as = refl
   replied_first (NotEntrusted w v) as = refl
@@ -48,7 +40,7 @@ module _ {V O R T : Type 0} where
   replied_one Shared = omega arith
   replied_one ByeDone = omega arith
 
-  pub replied_in-append : (xs ys : As) → replied_in (xs ++ ys) ≡ replied_in xs ++ replied_in ys
+  pub replied_in-append : (xs ys : List (Answer V O R T)) → replied_in (xs ++ ys) ≡ replied_in xs ++ replied_in ys
   replied_in-append [] ys = refl
   replied_in-append (a ∷ xs) ys =
       replied_first a (xs ++ ys) ∙ ap (λ l. replied_in (a ∷ []) ++ l) (replied_in-append xs ys)
@@ -56,14 +48,14 @@ module _ {V O R T : Type 0} where
 
   -- one more answer was noted
   pub noting :
-      (before came now all : List R) (answers rest : As) (a : Answer V O R T) → answers ≡ a ∷ rest → now ≡ came ++ replied_in (a ∷ [])
+      (before came now all : List R) (answers rest : List (Answer V O R T)) (a : Answer V O R T) → answers ≡ a ∷ rest → now ≡ came ++ replied_in (a ∷ [])
       → came ++ replied_in answers ≡ all → now ++ replied_in rest ≡ all
   noting before came now all answers rest a is more e =
       ap (λ l. l ++ replied_in rest) more ∙ append_assoc came (replied_in (a ∷ [])) (replied_in rest)
       ∙ ap (λ l. came ++ l) (sym (replied_first a rest) ∙ sym (ap replied_in is)) ∙ e
 
   pub noting_room :
-      (came now : List R) (answers rest : As) (a : Answer V O R T) (room : ℕ) → answers ≡ a ∷ rest → now ≡ came ++ replied_in (a ∷ [])
+      (came now : List R) (answers rest : List (Answer V O R T)) (a : Answer V O R T) (room : ℕ) → answers ≡ a ∷ rest → now ≡ came ++ replied_in (a ∷ [])
       → length came + length answers ≤ room → length now + length rest ≤ room
   noting_room came now answers rest a room is more le =
       let one = replied_one a in
@@ -71,7 +63,7 @@ module _ {V O R T : Type 0} where
       let both : length now ≡ length came + length (replied_in (a ∷ [])) = ap (λ l. length l) more ∙ length-append came (replied_in (a ∷ [])) in
       omega (arith, one, all, both, le)
 
-  asked_first : (q : Request V O R T) (qs : Qs) → asked_by (q ∷ qs) ≡ asked_by (q ∷ []) ++ asked_by qs
+  asked_first : (q : Request V O R T) (qs : List (Request V O R T)) → asked_by (q ∷ qs) ≡ asked_by (q ∷ []) ++ asked_by qs
   asked_first (Apply n op) qs = refl
   asked_first (Entrust v) qs = refl
   asked_first (Launch n t) qs = refl
@@ -80,14 +72,14 @@ module _ {V O R T : Type 0} where
   asked_first (Reclaim n) qs = refl
   asked_first Bye qs = refl
 
-  pub asked_by-append : (xs ys : Qs) → asked_by (xs ++ ys) ≡ asked_by xs ++ asked_by ys
+  pub asked_by-append : (xs ys : List (Request V O R T)) → asked_by (xs ++ ys) ≡ asked_by xs ++ asked_by ys
   asked_by-append [] ys = refl
   asked_by-append (q ∷ xs) ys =
       asked_first q (xs ++ ys) ∙ ap (λ l. asked_by (q ∷ []) ++ l) (asked_by-append xs ys)
       ∙ sym (append_assoc (asked_by (q ∷ [])) (asked_by xs) (asked_by ys)) ∙ ap (λ l. l ++ asked_by ys) (sym (asked_first q xs))
 
   -- no more replies come than applies were run
-  pub replied_few : (qs : Qs) (as : As) → AllZip Fits qs as → length (replied_in as) ≤ length (asked_by qs)
+  pub replied_few : (qs : List (Request V O R T)) (as : List (Answer V O R T)) → AllZip Fits qs as → length (replied_in as) ≤ length (asked_by qs)
   replied_few [] [] fits = omega arith
   replied_few [] (a ∷ as) fits = absurd fits
   replied_few (q ∷ qs) [] fits = absurd fits
@@ -105,7 +97,7 @@ module _ {V O R T : Type 0} where
   replied_few (Bye ∷ qs) (ByeDone ∷ as) fits = replied_few qs as fits.1
   replied_few (q ∷ qs) (a ∷ as) fits = absurd fits.0
 
-  behind : (q : Request V O R T) (qs : Qs) → IsApply q → has_bye (q ∷ qs) ≡ false → has_bye qs ≡ false
+  behind : (q : Request V O R T) (qs : List (Request V O R T)) → IsApply q → has_bye (q ∷ qs) ≡ false → has_bye qs ≡ false
   behind (Apply n op) qs apply e = e
   behind (Entrust v) qs apply e = absurd apply
   behind (Launch n t) qs apply e = absurd apply
@@ -115,31 +107,31 @@ module _ {V O R T : Type 0} where
   behind Bye qs apply e = absurd apply
 
   -- what stands behind an apply in requests of which the last alone is a Bye
-  apply_ends : (q : Request V O R T) (qs : Qs) → IsApply q → EndsInBye (q ∷ qs) → EndsInBye qs
+  apply_ends : (q : Request V O R T) (qs : List (Request V O R T)) → IsApply q → EndsInBye (q ∷ qs) → EndsInBye qs
   apply_ends q qs apply ([], e, none) = let is : q ≡ Bye = cc in absurd (subst IsApply is apply)
   apply_ends q qs apply (p ∷ ps, e, none) =
       let same : p ≡ q = cc in
       let rest : qs ≡ ps ++ Bye ∷ [] = cc in
       (ps, rest, behind p ps (subst IsApply (sym same) apply) none)
 
-  apply_last : (q : Request V O R T) (qs : Qs) → IsApply q → (has_bye (q ∷ qs) ≡ false) ⊎ EndsInBye (q ∷ qs) → (has_bye qs ≡ false) ⊎ EndsInBye qs
+  apply_last : (q : Request V O R T) (qs : List (Request V O R T)) → IsApply q → (has_bye (q ∷ qs) ≡ false) ⊎ EndsInBye (q ∷ qs) → (has_bye qs ≡ false) ⊎ EndsInBye qs
   apply_last q qs apply (inl none) = inl (behind q qs apply none)
   apply_last q qs apply (inr ends) = inr (apply_ends q qs apply ends)
 
-  bye_alone : (qs : Qs) → (has_bye (Bye ∷ qs) ≡ false) ⊎ EndsInBye (Bye ∷ qs) → qs ≡ []
+  bye_alone : (qs : List (Request V O R T)) → (has_bye (Bye ∷ qs) ≡ false) ⊎ EndsInBye (Bye ∷ qs) → qs ≡ []
   bye_alone qs (inl none) = absurd cc
   bye_alone qs (inr ([], e, none)) = let is : qs ≡ [] = cc in is
   bye_alone qs (inr (p ∷ ps, e, none)) =
       let same : p ≡ Bye = cc in absurd (let bad : has_bye (Bye ∷ ps) ≡ false = subst (λ x. has_bye (x ∷ ps) ≡ false) same none in cc)
 
-  no_answers : (qs : Qs) (as : As) → qs ≡ [] → AllZip Fits qs as → as ≡ []
+  no_answers : (qs : List (Request V O R T)) (as : List (Answer V O R T)) → qs ≡ [] → AllZip Fits qs as → as ≡ []
   no_answers [] [] e fits = refl
   no_answers [] (a ∷ as) e fits = absurd fits
   no_answers (q ∷ qs) as e fits = absurd cc
 
   -- where all are applies each answer is a reply, and a Bye behind them has one more
   pub replied_all :
-      (qs : Qs) (as : As) → AllByRecursion IsOfTrustee qs → (has_bye qs ≡ false) ⊎ EndsInBye qs → AllZip Fits qs as
+      (qs : List (Request V O R T)) (as : List (Answer V O R T)) → AllByRecursion IsOfTrustee qs → (has_bye qs ≡ false) ⊎ EndsInBye qs → AllZip Fits qs as
       → IsPrefix (map (λ r. Replied r) (replied_in as)) as
   replied_all [] [] all last fits = ([], refl)
   replied_all [] (a ∷ as) all last fits = absurd fits

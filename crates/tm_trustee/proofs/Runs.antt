@@ -79,17 +79,18 @@ module _ {V O R T : Type 0} where
             ]
       ]
 
+module _ {O R T : Type 0} where
   -- an ask that does not go above, or of no object, asks nothing of a greater trustee
   below_asks :
       (setup : Setup) (u by ticket v x : ℕ) (op : O) (task : T) → setup.number < u → v ≤ setup.number
-      → ask_of {R = R} setup u by ticket (Ask v x op task) ≡ []
+      → ask_of {O = O} {R = R} {T = T} setup u by ticket (Ask v x op task) ≡ []
   below_asks setup u by ticket v x op task lt le =
       let ne : v ≢ u = λ e. absurd (omega (arith, lt, le, e)) in
       rw (ne_eqb v u ne) refl
 
   none_asks :
       (setup : Setup) (u by ticket v x : ℕ) (op : O) (task : T) → length (ids_above setup v) ≤ x
-      → ask_of {R = R} setup u by ticket (Ask v x op task) ≡ []
+      → ask_of {O = O} {R = R} {T = T} setup u by ticket (Ask v x op task) ≡ []
   none_asks setup u by ticket v x op task le =
       elim (cases_eq v u) [
         | inl e ↦
@@ -98,26 +99,34 @@ module _ {V O R T : Type 0} where
         | inr ne ↦ rw (ne_eqb v u ne) refl
       ]
 
-  nothing_more : (setup : Setup) (u : ℕ) (asks : List (NestedAsk O)) (es : List (Entry V O R T)) → es ≡ [] → asks ++ asks_of setup u es ≡ asks
-  nothing_more setup u asks es none = ap (λ l. asks ++ asks_of setup u l) none ∙ append-nil asks
-
+module _ {R T : Type 0} where
   told_none : (u : ℕ) (ws : List (Work T)) (ticket : ℕ) (event : Event R) → ((r : R) → event ≢ Reply r) → told_by u ws ticket event ≡ []
   told_none u ws ticket Begin no = refl
   told_none u ws ticket (Reply r) no = absurd (no r refl)
   told_none u ws ticket NotAbove no = refl
   told_none u ws ticket NoObject no = refl
 
-  told_same :
-      (s : State V O R T) (u i id t ticket : ℕ) (e event : Event R) → i ≡ id → t ≡ ticket → e ≡ event
-      → told_by u (works_at s i) t e ≡ told_by u (works_at s id) ticket event
-  told_same s u i id t ticket e event first then last =
-      ap (λ m. told_by u (works_at s m) t e) first ∙ ap (λ m. told_by u (works_at s id) m e) then ∙ ap (told_by u (works_at s id) ticket) last
-
+module _ {O R T : Type 0} where
   resumed_here : (ws : List (Work T)) (i id : ℕ) (next : Next O T R) → i ≡ id → cond (i == id) (works_resumed ws next) ws ≡ works_resumed ws next
   resumed_here ws i id next e = rw (eq-eqb i id e) refl
 
   resumed_there : (ws : List (Work T)) (i d : ℕ) (next : Next O T R) → i ≢ d → cond (i == d) (works_resumed ws next) ws ≡ ws
   resumed_there ws i d next ne = rw (ne_eqb i d ne) refl
+
+  works_twice : (ws : List (Work T)) (u x : ℕ) (op : O) (task : T) (last : Next O T R) → works_resumed {O = O} {R = R} {T = T} (works_resumed {O = O} {R = R} {T = T} ws (Ask u x op task)) last ≡ works_resumed ws last
+  works_twice [] u x op task last = refl
+  works_twice (w ∷ ws) u x op task (Ask v y o t) = refl
+  works_twice (w ∷ ws) u x op task (Done r) = refl
+
+module _ {V O R T : Type 0} where
+  nothing_more : (setup : Setup) (u : ℕ) (asks : List (NestedAsk O)) (es : List (Entry V O R T)) → es ≡ [] → asks ++ asks_of setup u es ≡ asks
+  nothing_more setup u asks es none = ap (λ l. asks ++ asks_of setup u l) none ∙ append-nil asks
+
+  told_same :
+      (s : State V O R T) (u i id t ticket : ℕ) (e event : Event R) → i ≡ id → t ≡ ticket → e ≡ event
+      → told_by u (works_at s i) t e ≡ told_by u (works_at s id) ticket event
+  told_same s u i id t ticket e event first then last =
+      ap (λ m. told_by u (works_at s m) t e) first ∙ ap (λ m. told_by u (works_at s id) m e) then ∙ ap (told_by u (works_at s id) ticket) last
 
   -- a run asks what it asks last, and no more
   pub run_asks :
@@ -131,8 +140,8 @@ module _ {V O R T : Type 0} where
   run_asks setup u id ticket event (Resume i t e (Ask v x op task) ∷ es) last lt run =
       elim run.3 [
         | inl stops ↦
-            nothing_more setup u (ask_of {R = R} setup u i t (Ask v x op task)) es stops.0
-            ∙ ap (λ m. ask_of {R = R} setup u m t (Ask v x op task)) run.0 ∙ ap (λ m. ask_of {R = R} setup u id m (Ask v x op task)) run.1
+            nothing_more setup u (ask_of {O = O} {R = R} {T = T} setup u i t (Ask v x op task)) es stops.0
+            ∙ ap (λ m. ask_of {O = O} {R = R} {T = T} setup u m t (Ask v x op task)) run.0 ∙ ap (λ m. ask_of {O = O} {R = R} {T = T} setup u id m (Ask v x op task)) run.1
             ∙ ap (ask_of setup u id ticket) (sym stops.1)
         | inr goes ↦
             elim goes [
@@ -190,11 +199,6 @@ module _ {V O R T : Type 0} where
       ap (λ l. told_by u (works_at s i) t e ++ l) rest ∙ append-nil (told_by u (works_at s i) t e)
       ∙ told_same s u i id t ticket e event run.0 run.1 run.2
 
-  works_twice : (ws : List (Work T)) (u x : ℕ) (op : O) (task : T) (last : Next O T R) → works_resumed {R = R} (works_resumed {R = R} ws (Ask u x op task)) last ≡ works_resumed ws last
-  works_twice [] u x op task last = refl
-  works_twice (w ∷ ws) u x op task (Ask v y o t) = refl
-  works_twice (w ∷ ws) u x op task (Done r) = refl
-
   module _ (kind : Kind V O R T) (n : ℕ) where
     pub run_works :
         (s : State V O R T) (setup : Setup) (id ticket : ℕ) (event : Event R) (es : List (Entry V O R T)) (last : Next O T R)
@@ -214,7 +218,7 @@ module _ {V O R T : Type 0} where
         )
     run_works s setup id ticket event (Resume i t e (Ask v x op task) ∷ es) last legal ordered run =
         let s' = after kind s (Resume i t e (Ask v x op task)) in
-        let here : works_at s' id ≡ works_resumed {R = R} (works_at s id) (Ask v x op task) =
+        let here : works_at s' id ≡ works_resumed {O = O} {R = R} {T = T} (works_at s id) (Ask v x op task) =
         works_after kind n s (Resume i t e (Ask v x op task)) id legal.0 ordered ∙ resumed_here (works_at s id) i id (Ask v x op task) run.0 in
         let there : (d : ℕ) → d ≢ id → works_at s' d ≡ works_at s d = λ d ne.
         works_after kind n s (Resume i t e (Ask v x op task)) d legal.0 ordered ∙ resumed_there (works_at s d) i d (Ask v x op task) (λ is. ne (sym is ∙ run.0)) in

@@ -6,7 +6,7 @@ use Rattle.std.specs.declared.option.Option.TheVariants.{None, Some}
 use Rattle.tm_batch.specs.declared.limits.TheConstants.{MOST_REQUESTS}
 use Rattle.tm_batch.specs.declared.batch.Batch.{Batch}
 use Rattle.tm_batch.specs.declared.message.Request.{Request}
-use Rattle.tm_batch.specs.declared.message.Request.TheVariants.{Apply, Bye}
+use Rattle.tm_batch.specs.declared.message.Request.TheVariants.{Bye}
 use Rattle.tm_model.specs.declared.entry.Entry.{Entry}
 use Rattle.tm_model.specs.State.{Setup}
 use Rattle.tm_model.specs.Holds.{has_bye}
@@ -16,7 +16,7 @@ use Rattle.tm_pair.specs.Theory.{Theory, KeepsSides}
 use Rattle.tm_pair.specs.Moves.{answers_found}
 use Rattle.tm_pair.specs.declared.moves.Move.TheVariants.{Publish, Collect}
 use Rattle.tm_pair.specs.declared.table.Collected.{Collected}
-use Rattle.tm_trustee.specs.NestedAsks.{target, asks_of, asked_by}
+use Rattle.tm_trustee.specs.NestedAsks.{target, asks_of, asked_by, IsApply}
 use Rattle.tm_trustee.specs.declared.stage.Stage.{Stage}
 use Rattle.tm_trustee.specs.declared.stage.Stage.TheVariants.{Before, Out, Over}
 
@@ -31,11 +31,6 @@ module _ {V O R T : Type 0} where
   IsAt Before view = has_bye view.sent ≡ false
   IsAt Out view = (has_bye view.sent ≡ true) × IsSome view.out
   IsAt Over view = (has_bye view.sent ≡ true) × (view.out ≡ None)
-
-  -- a request is an apply
-  abbrev pub IsApply : Request V O R T → Type 0
-  IsApply (Apply n op) = Unit {0}
-  IsApply _ = ⊥
 
   -- what a trustee that has done so much asked of trustee u and its side there did not send
   abbrev pub unsent : Setup → List (Entry V O R T) → ℕ → ClientView V O R T → List (ℕ × O)

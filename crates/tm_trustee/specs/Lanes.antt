@@ -7,9 +7,7 @@ use Rattle.tm_seq.specs.Kind.{Kind}
 use Rattle.tm_batch.specs.declared.message.Name.{Name}
 use Rattle.tm_batch.specs.declared.limits.TheConstants.{MOST_REQUESTS}
 use Rattle.tm_batch.specs.declared.message.Request.{Request}
-use Rattle.tm_batch.specs.declared.message.Request.TheVariants.{Apply, Bye}
 use Rattle.tm_batch.specs.declared.message.Answer.{Answer}
-use Rattle.tm_batch.specs.declared.message.Answer.TheVariants.{Replied}
 use Rattle.tm_model.specs.declared.entry.Entry.{Entry}
 use Rattle.tm_model.specs.State.{State, ids_above}
 use Rattle.tm_model.specs.Holds.{has_bye}
@@ -20,27 +18,12 @@ use Rattle.tm_model.specs.Ran.{answered}
 use Rattle.tm_latch.specs.declared.ticket.Ticket.{Ticket}
 use Rattle.tm_state.specs.Launches.{Pending, work_of}
 use Rattle.tm_pair.specs.Views.{BatchView, ClientView}
-use Rattle.tm_trustee.specs.NestedAsks.{NestedAsk, target, asks_of, replies_of, pending_of, works_at, asked_by, IsAmong}
+use Rattle.tm_trustee.specs.NestedAsks.{NestedAsk, target, asks_of, replies_of, pending_of, works_at, asked_by, replied_in, AppliesAmong, EndsInBye}
 use Rattle.tm_trustee.specs.declared.stage.Stage.{Stage}
 use Rattle.tm_trustee.specs.declared.stage.Stage.TheVariants.{Before, Out, Over}
 use Rattle.tm_trustee.specs.declared.lane.Lane.{Lane}
 
 module _ {V O R T : Type 0} where
-  -- the replies among some answers
-  abbrev pub replied_in : List (Answer V O R T) → List R
-  replied_in [] = []
-  replied_in (Replied r ∷ answers) = r ∷ replied_in answers
-  replied_in (_ ∷ answers) = replied_in answers
-
-  -- an apply of an object of one of some ids
-  abbrev pub AppliesAmong : List ℕ → Request V O R T → Type 0
-  AppliesAmong ids (Apply n op) = IsAmong n.id ids
-  AppliesAmong ids _ = ⊥
-
-  -- all requests but the last are none, which is a Bye
-  abbrev pub EndsInBye : List (Request V O R T) → Type 0
-  EndsInBye sent = (qs : List (Request V O R T)) × (sent ≡ qs ++ Bye ∷ []) × (has_bye qs ≡ false)
-
   -- a launch that was handed out is the first of its object, and made an ask
   abbrev pub IsAsker : State V O R T → Ticket (Pending T) → NestedAsk O → Type 0
   IsAsker s t a = (t.id ≡ a.by) × HasFirst (works_at s t.id) (λ w. w ≡ work_of t)

@@ -9,3 +9,4 @@ pub mod NestedAsks
 pub mod Awaiting
 pub mod Lanes
 pub mod Steps
+pub mod Laws

@@ -37,6 +37,11 @@ pub record ToldReply (R : Type 0) : Type 0 where
   pub ticket : ℕ
   pub reply : R
 
+-- an element of a list
+abbrev pub IsAmong : {X : Type 0} → X → List X → Type 0
+IsAmong x [] = ⊥
+IsAmong x (y ∷ ys) = (y ≡ x) ⊎ IsAmong x ys
+
 -- launched work awaits what trustee u says
 abbrev pub is_ask_of : ℕ → Awaits → Bool
 is_ask_of u Start = false
@@ -47,7 +52,7 @@ abbrev pub asks_at : {T : Type 0} → ℕ → List (Work T) → Bool
 asks_at u [] = false
 asks_at u (w ∷ ws) = is_ask_of u w.awaits
 
-module _ {V O R T : Type 0} where
+module _ {O R T : Type 0} where
   -- what a resume asks of trustee u: an object that is held there, or nothing
   abbrev pub ask_of : Setup → ℕ → ℕ → ℕ → Next O T R → List (NestedAsk O)
   ask_of setup u by ticket (Ask v i op task) =
@@ -55,19 +60,21 @@ module _ {V O R T : Type 0} where
       (record { by = by; ticket = ticket; id = slice_index_or (ids_above setup u) i 0; op = op } ∷ []) []
   ask_of setup u by ticket (Done r) = []
 
-  -- what the resumes of a log ask of trustee u, in order
-  abbrev pub asks_of : Setup → ℕ → List (Entry V O R T) → List (NestedAsk O)
-  asks_of setup u [] = []
-  asks_of setup u (Resume id ticket event next ∷ es) = ask_of setup u id ticket next ++ asks_of setup u es
-  asks_of setup u (By c k q a ∷ es) = asks_of setup u es
-  asks_of setup u (Sent c room ∷ es) = asks_of setup u es
-
+module _ {R T : Type 0} where
   -- the reply of trustee u that an event tells the first of some launches
   abbrev pub told_by : ℕ → List (Work T) → ℕ → Event R → List (ToldReply R)
   told_by u ws ticket (Reply r) = cond (asks_at u ws) (record { ticket = ticket; reply = r } ∷ []) []
   told_by u ws ticket Begin = []
   told_by u ws ticket NotAbove = []
   told_by u ws ticket NoObject = []
+
+module _ {V O R T : Type 0} where
+  -- what the resumes of a log ask of trustee u, in order
+  abbrev pub asks_of : Setup → ℕ → List (Entry V O R T) → List (NestedAsk O)
+  asks_of setup u [] = []
+  asks_of setup u (Resume id ticket event next ∷ es) = ask_of setup u id ticket next ++ asks_of setup u es
+  asks_of setup u (By c k q a ∷ es) = asks_of setup u es
+  asks_of setup u (Sent c room ∷ es) = asks_of setup u es
 
   -- the launches of an id that have not ended, in order
   abbrev pub works_at : State V O R T → ℕ → List (Work T)
@@ -91,6 +98,26 @@ module _ {V O R T : Type 0} where
   asked_by (Apply n op ∷ qs) = (n.id, op) ∷ asked_by qs
   asked_by (_ ∷ qs) = asked_by qs
 
+  -- a request is an apply
+  abbrev pub IsApply : Request V O R T → Type 0
+  IsApply (Apply n op) = Unit {0}
+  IsApply _ = ⊥
+
+  -- the replies among some answers
+  abbrev pub replied_in : List (Answer V O R T) → List R
+  replied_in [] = []
+  replied_in (Replied r ∷ answers) = r ∷ replied_in answers
+  replied_in (_ ∷ answers) = replied_in answers
+
+  -- an apply of an object of one of some ids
+  abbrev pub AppliesAmong : List ℕ → Request V O R T → Type 0
+  AppliesAmong ids (Apply n op) = IsAmong n.id ids
+  AppliesAmong ids _ = ⊥
+
+  -- all requests but the last are none, which is a Bye
+  abbrev pub EndsInBye : List (Request V O R T) → Type 0
+  EndsInBye sent = (qs : List (Request V O R T)) × (sent ≡ qs ++ Bye ∷ []) × (has_bye qs ≡ false)
+
   -- a side sent a front of what was asked and no Bye, or all of it and then a Bye
   abbrev pub HasSent : List (ℕ × O) → List (Request V O R T) → Type 0
   HasSent asks sent =
@@ -106,8 +133,3 @@ module _ {V O R T : Type 0} where
     pub tickets : IsPrefix (map (λ t. t.ticket) (replies_of kind opening u done)) (map (λ a. a.ticket) (asks_of opening.setup u done))
     -- and is the j-th answer to its place in the log that its own side there has seen
     pub replies : IsPrefix (map (λ t. Replied t.reply) (replies_of kind opening u done)) (answered up.place up.seen)
-
--- an element of a list
-abbrev pub IsAmong : {X : Type 0} → X → List X → Type 0
-IsAmong x [] = ⊥
-IsAmong x (y ∷ ys) = (y ≡ x) ⊎ IsAmong x ys

@@ -12,7 +12,7 @@ use Rattle.tm_model.specs.Holds.{has_bye}
 use Rattle.tm_pair.specs.Calls.{IsPending, Gets, Publishes}
 use Rattle.tm_pair.specs.Theory.{Theory, KeepsSides}
 use Rattle.tm_pair.specs.declared.moves.Move.TheVariants.{Publish, Collect}
-use Rattle.tm_trustee.specs.Above.{IsApply, SaysByeAt}
+use Rattle.tm_trustee.specs.Above.{SaysByeAt}
 use Rattle.tm_trustee.specs.Lanes.{TakesIn, LetsGo}
 use Rattle.tm_trustee.specs.declared.lane.Lane.{Lane}
 use Rattle.tm_trustee.specs.declared.stage.Stage.TheVariants.{Before, Out}

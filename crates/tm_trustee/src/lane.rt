@@ -1,7 +1,8 @@
 //! What a trustee keeps of a greater one.
 ghost use Rattle.std.specs.Prelude.{◌≡◌, ◌+◌, ◌^◌, ◌<◌, ◌≤◌, [], ◌∷◌, ◌++◌, length, take, drop, map, filter, ◌==◌, IfOk};
 ghost use Rattle.tm_batch.specs.declared.limits.TheConstants.{MOST_REQUESTS};
-ghost use Rattle.tm_trustee.specs.Lanes.{IsNewLane, AreNewLanes, replied_in, TakesIn, LetsGo};
+ghost use Rattle.tm_trustee.specs.NestedAsks.{replied_in};
+ghost use Rattle.tm_trustee.specs.Lanes.{IsNewLane, AreNewLanes, TakesIn, LetsGo};
 
 use crate::stage::Stage;
 use std::alloc::{AllocError, Global};
