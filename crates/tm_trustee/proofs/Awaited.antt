@@ -118,6 +118,12 @@ abbrev pub IsStop : {O R T : Type 0} → Setup → Next O T R → Type 0
 IsStop setup (Done r) = Unit {0}
 IsStop setup (Ask u x op task) = (setup.number < u) × (x < length (ids_above setup u))
 
+module _ {O T : Type 0} where
+  asks_itself :
+      (R : Type 0) (setup : Setup) (u by ticket x : ℕ) (op : O) (task : T) → x < length (ids_above setup u)
+      → ask_of {O = O} {R = R} {T = T} setup u by ticket (Ask u x op task) ≡ record { by = by; ticket = ticket; id = slice_index_or (ids_above setup u) x 0; op = op } ∷ []
+  asks_itself R setup u by ticket x op task lt = rw (eq-eqb u u refl, lt-ltb x (length (ids_above setup u)) lt) refl
+
 module _ {O R T : Type 0} where
   -- what a stop asks of trustee u: one object that is held there, or nothing
   pub asks_once :
@@ -136,12 +142,6 @@ module _ {O R T : Type 0} where
         | inr ne ↦ inl (rw (ne_eqb v u ne) refl)
       ]
 
-  asks_itself :
-      (setup : Setup) (u by ticket x : ℕ) (op : O) (task : T) → x < length (ids_above setup u)
-      → ask_of {O = O} {R = R} {T = T} setup u by ticket (Ask u x op task) ≡ record { by = by; ticket = ticket; id = slice_index_or (ids_above setup u) x 0; op = op } ∷ []
-  asks_itself setup u by ticket x op task lt = rw (eq-eqb u u refl, lt-ltb x (length (ids_above setup u)) lt) refl
-
-module _ {O R T : Type 0} where
   -- what the first launch of an object may be told: that it begins, or the reply to its ask, which is the first that is pending
   abbrev pub IsToldRightly : Setup → Event R → ℕ → Work T → (ℕ → List (NestedAsk O)) → Type 0
   IsToldRightly setup event id w pending =
@@ -247,22 +247,22 @@ module _ {V O R T : Type 0} where
         (u : ℕ) → (IsAskAt opening.setup u w.awaits → ⊥)
         → AllByRecursion (λ a. HasFirst (works_at t a.by) (λ v. (v.ticket ≡ a.ticket) × IsAskAt opening.setup u v.awaits)) (pending_of kind opening u log)
         → AllByRecursion (λ a. a.by ≢ id) (pending_of kind opening u log)
-    not_mine u no all =
+    not_mine u never all =
         all_weaker _ _ (pending_of kind opening u log)
         (λ a first is.
-        no (subst (λ l. HasFirst l (λ v. (v.ticket ≡ a.ticket) × IsAskAt opening.setup u v.awaits)) (ap (works_at t) is ∙ here) first).1)
+        never (subst (λ l. HasFirst l (λ v. (v.ticket ≡ a.ticket) × IsAskAt opening.setup u v.awaits)) (ap (works_at t) is ∙ here) first).1)
         all
 
     -- where no reply of trustee u was told
     rest_none :
         (u : ℕ) → opening.setup.number < u → told_by u (w ∷ ws) ticket event ≡ [] → (IsAskAt opening.setup u w.awaits → ⊥)
         → IsRest u (pending_of kind opening u log)
-    rest_none u lt nothing no =
+    rest_none u lt nothing never =
         let told : length (told_by u (w ∷ ws) ticket event) ≡ 0 = ap (λ l. length l) nothing in
         let was = are.enough u lt in
         record {
           pending = run_pending u 0 lt told (omega (arith, was));
-          others = not_mine u no (are.asked u lt);
+          others = not_mine u never (are.asked u lt);
           keeps = λ a among ne. among;
           asked = are.asked u lt;
           once = are.once u lt;
@@ -283,7 +283,7 @@ module _ {V O R T : Type 0} where
     rest_told u a rest lt told e by =
         let n = length (replies_of kind opening u log) in
         let asks = asks_of opening.setup u log in
-        let some : length (drop n asks) ≡ 1 + length rest = ap (λ l. length l) e in
+        let some : length (drop n asks) ≡ length (a ∷ rest) = ap (λ l. length l) e in
         let size = length-drop n asks in
         let once = subst (λ l. IsDistinct nat_eq (map (λ x. x.by) l)) e (are.once u lt) in
         let most : n + 1 ≤ length asks = omega (arith, some, size) in
@@ -308,7 +308,7 @@ module _ {V O R T : Type 0} where
                 | inl e ↦
                     let (a, rest, pending, by) = first in
                     let one : length (told_by u (w ∷ ws) ticket event) ≡ 1 =
-                    ap (λ l. length l) tells ∙ ap (λ b. length (cond b (record { ticket = ticket; reply = r } ∷ []) [])) (eq-eqb v u e) in
+                    ap (λ (l : List (ToldReply R)). length l) tells ∙ ap (λ b. length {A = ToldReply R} (cond b (record { ticket = ticket; reply = r } ∷ []) [])) (eq-eqb v u e) in
                     (rest, rest_told u a rest lt one (subst (λ m. pending_of kind opening m log ≡ a ∷ rest) e pending) by)
                 | inr ne ↦
                     let none : told_by u (w ∷ ws) ticket event ≡ [] =
@@ -331,7 +331,7 @@ module _ {V O R T : Type 0} where
         let rest : ws ≡ xs = cc in
         let (before, at) = rest_of u stop.0 in
         let new : NestedAsk O = record { by = id; ticket = ticket; id = slice_index_or (ids_above opening.setup u) i 0; op = op } in
-        let last_is : asked_last u ≡ new ∷ [] = ap (ask_of opening.setup u id ticket) (sym e) ∙ asks_itself opening.setup u id ticket i op task stop.1 in
+        let last_is : asked_last u ≡ new ∷ [] = ap (ask_of opening.setup u id ticket) (sym e) ∙ asks_itself R opening.setup u id ticket i op task stop.1 in
         let among : IsAmong new (pending_of kind opening u (log ++ es)) =
         subst (IsAmong new) (sym (at.pending ∙ ap (λ l. before ++ l) last_is)) (among_last new before) in (
           inr (

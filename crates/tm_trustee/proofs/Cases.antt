@@ -102,7 +102,7 @@ told-replies = refl
 told-pending : pending_of counter_kind opening 2 told ≡ []
 told-pending = refl
 
-told-ready : map (λ r. (r.ticket, r.reply)) (place_of (state_after counter_kind opening told) 0).ready ≡ (1, Refused) ∷ (2, Is 7) ∷ (3, Refused) ∷ []
+told-ready : map {B = ℕ × CounterReply} (λ r. (r.ticket, r.reply)) (place_of (state_after counter_kind opening told) 0).ready ≡ (1, Refused) ∷ (2, Is 7) ∷ (3, Refused) ∷ []
 told-ready = refl
 
 -- nothing is asked of the own trustee, nor of one that is not there

@@ -1,6 +1,7 @@
 -- The front of a list, an element at a time.
-use Rattle.std.proofs.Common.{◌≡◌, ℕ, zero, suc, ◌+◌, ◌<◌, List, [], ◌∷◌, ◌++◌, take, drop, length, slice_index_or, refl, sym, ◌∙◌, ap, arith}
-use Rattle.std.specs.Prelude.{remove}
+use Rattle.std.proofs.Common.{◌≡◌, ◌≢◌, ℕ, zero, suc, ◌+◌, ◌<◌, true, false, List, [], ◌∷◌, ◌++◌, take, drop, length, slice_index_or, refl, sym, ◌∙◌, ap, arith}
+use Rattle.std.specs.Prelude.{remove, ◌==◌}
+use Rattle.tm_core.proofs.CallerLemmas.{is_same}
 
 module _ {X : Type 0} where
   front_longer : (n : ℕ) (xs : List X) → take n xs ++ take 1 (drop n xs) ≡ take (suc n) xs
@@ -25,3 +26,12 @@ module _ {X : Type 0} where
   pub removed : (xs ys : List X) (x : X) → 0 < length xs → x ≡ slice_index_or xs 0 x → ys ≡ remove xs 0 → xs ≡ x ∷ ys
   removed [] ys x lt is e = absurd (omega (arith, lt))
   removed (y ∷ xs) ys x lt is e = rw e (ap (λ z. z ∷ xs) (sym is))
+
+  -- what a test of a list's length tells
+  pub empty_of : (xs : List X) → true ≡ (length xs == 0) → xs ≡ []
+  empty_of [] e = refl
+  empty_of (x ∷ xs) e = absurd (let none = is_same (length (x ∷ xs)) 0 (sym e) in omega (arith, none))
+
+  pub some_of : (xs : List X) → false ≡ (length xs == 0) → xs ≢ []
+  some_of [] e none = absurd cc
+  some_of (x ∷ xs) e none = absurd cc

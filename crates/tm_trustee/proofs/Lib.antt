@@ -18,3 +18,11 @@ pub mod TurningMoved
 pub mod TurningLooks
 pub mod TurningOwn
 pub mod TurningParts
+pub mod LaneKeeps
+pub mod LaneRuns
+pub mod Idle
+pub mod AboveAsks
+pub mod Exchanging
+pub mod TurningLanes
+pub mod HeldAbove
+pub mod TurningAll

@@ -12,19 +12,19 @@ use Rattle.tm_model.specs.Lists.{IsPrefix}
 use Rattle.tm_trustee.specs.NestedAsks.{asked_by, IsApply, replied_in, EndsInBye}
 
 module _ {V O R T : Type 0} where
-  pub replied_first : (a : Answer V O R T) (as : List (Answer V O R T)) → replied_in (a ∷ as) ≡ replied_in (a ∷ []) ++ replied_in as
-  replied_first (Replied r) as = refl
-  replied_first (Entrusted n) as = refl
-  replied_first (NotEntrusted w v) as = refl
-  replied_first (Launched t) as = refl
-  replied_first (TicketsSpent t) as = refl
-  replied_first Granted as = refl
-  replied_first Gone as = refl
-  replied_first GiftsFull as = refl
-  replied_first Released as = refl
-  replied_first (Reclaimed v) as = refl
-  replied_first Shared as = refl
-  replied_first ByeDone as = refl
+  pub replied_first : (a : Answer V O R T) (answers : List (Answer V O R T)) → replied_in (a ∷ answers) ≡ replied_in (a ∷ []) ++ replied_in answers
+  replied_first (Replied r) answers = refl
+  replied_first (Entrusted n) answers = refl
+  replied_first (NotEntrusted w v) answers = refl
+  replied_first (Launched t) answers = refl
+  replied_first (TicketsSpent t) answers = refl
+  replied_first Granted answers = refl
+  replied_first Gone answers = refl
+  replied_first GiftsFull answers = refl
+  replied_first Released answers = refl
+  replied_first (Reclaimed v) answers = refl
+  replied_first Shared answers = refl
+  replied_first ByeDone answers = refl
 
   pub replied_one : (a : Answer V O R T) → length (replied_in (a ∷ [])) ≤ 1
   replied_one (Replied r) = omega arith
@@ -48,9 +48,9 @@ module _ {V O R T : Type 0} where
 
   -- one more answer was noted
   pub noting :
-      (before came now all : List R) (answers rest : List (Answer V O R T)) (a : Answer V O R T) → answers ≡ a ∷ rest → now ≡ came ++ replied_in (a ∷ [])
+      (came now all : List R) (answers rest : List (Answer V O R T)) (a : Answer V O R T) → answers ≡ a ∷ rest → now ≡ came ++ replied_in (a ∷ [])
       → came ++ replied_in answers ≡ all → now ++ replied_in rest ≡ all
-  noting before came now all answers rest a is more e =
+  noting came now all answers rest a is more e =
       ap (λ l. l ++ replied_in rest) more ∙ append_assoc came (replied_in (a ∷ [])) (replied_in rest)
       ∙ ap (λ l. came ++ l) (sym (replied_first a rest) ∙ sym (ap replied_in is)) ∙ e
 
@@ -59,7 +59,7 @@ module _ {V O R T : Type 0} where
       → length came + length answers ≤ room → length now + length rest ≤ room
   noting_room came now answers rest a room is more le =
       let one = replied_one a in
-      let all : length answers ≡ 1 + length rest = ap (λ l. length l) is in
+      let all : length answers ≡ length (a ∷ rest) = ap (λ l. length l) is in
       let both : length now ≡ length came + length (replied_in (a ∷ [])) = ap (λ l. length l) more ∙ length-append came (replied_in (a ∷ [])) in
       omega (arith, one, all, both, le)
 
@@ -79,23 +79,23 @@ module _ {V O R T : Type 0} where
       ∙ sym (append_assoc (asked_by (q ∷ [])) (asked_by xs) (asked_by ys)) ∙ ap (λ l. l ++ asked_by ys) (sym (asked_first q xs))
 
   -- no more replies come than applies were run
-  pub replied_few : (qs : List (Request V O R T)) (as : List (Answer V O R T)) → AllZip Fits qs as → length (replied_in as) ≤ length (asked_by qs)
+  pub replied_few : (qs : List (Request V O R T)) (answers : List (Answer V O R T)) → AllZip Fits qs answers → length (replied_in answers) ≤ length (asked_by qs)
   replied_few [] [] fits = omega arith
-  replied_few [] (a ∷ as) fits = absurd fits
+  replied_few [] (a ∷ answers) fits = absurd fits
   replied_few (q ∷ qs) [] fits = absurd fits
-  replied_few (Apply n op ∷ qs) (Replied r ∷ as) fits = let more = replied_few qs as fits.1 in omega (arith, more)
-  replied_few (Entrust v ∷ qs) (Entrusted n ∷ as) fits = replied_few qs as fits.1
-  replied_few (Entrust v ∷ qs) (NotEntrusted w b ∷ as) fits = replied_few qs as fits.1
-  replied_few (Launch n t ∷ qs) (Launched k ∷ as) fits = replied_few qs as fits.1
-  replied_few (Launch n t ∷ qs) (TicketsSpent b ∷ as) fits = replied_few qs as fits.1
-  replied_few (Grant n d ∷ qs) (Granted ∷ as) fits = replied_few qs as fits.1
-  replied_few (Grant n d ∷ qs) (Gone ∷ as) fits = replied_few qs as fits.1
-  replied_few (Grant n d ∷ qs) (GiftsFull ∷ as) fits = replied_few qs as fits.1
-  replied_few (Release n ∷ qs) (Released ∷ as) fits = replied_few qs as fits.1
-  replied_few (Reclaim n ∷ qs) (Reclaimed v ∷ as) fits = replied_few qs as fits.1
-  replied_few (Reclaim n ∷ qs) (Shared ∷ as) fits = replied_few qs as fits.1
-  replied_few (Bye ∷ qs) (ByeDone ∷ as) fits = replied_few qs as fits.1
-  replied_few (q ∷ qs) (a ∷ as) fits = absurd fits.0
+  replied_few (Apply n op ∷ qs) (Replied r ∷ answers) fits = let more = replied_few qs answers fits.1 in omega (arith, more)
+  replied_few (Entrust v ∷ qs) (Entrusted n ∷ answers) fits = replied_few qs answers fits.1
+  replied_few (Entrust v ∷ qs) (NotEntrusted w b ∷ answers) fits = replied_few qs answers fits.1
+  replied_few (Launch n t ∷ qs) (Launched k ∷ answers) fits = replied_few qs answers fits.1
+  replied_few (Launch n t ∷ qs) (TicketsSpent b ∷ answers) fits = replied_few qs answers fits.1
+  replied_few (Grant n d ∷ qs) (Granted ∷ answers) fits = replied_few qs answers fits.1
+  replied_few (Grant n d ∷ qs) (Gone ∷ answers) fits = replied_few qs answers fits.1
+  replied_few (Grant n d ∷ qs) (GiftsFull ∷ answers) fits = replied_few qs answers fits.1
+  replied_few (Release n ∷ qs) (Released ∷ answers) fits = replied_few qs answers fits.1
+  replied_few (Reclaim n ∷ qs) (Reclaimed v ∷ answers) fits = replied_few qs answers fits.1
+  replied_few (Reclaim n ∷ qs) (Shared ∷ answers) fits = replied_few qs answers fits.1
+  replied_few (Bye ∷ qs) (ByeDone ∷ answers) fits = replied_few qs answers fits.1
+  replied_few (q ∷ qs) (a ∷ answers) fits = absurd fits.0
 
   behind : (q : Request V O R T) (qs : List (Request V O R T)) → IsApply q → has_bye (q ∷ qs) ≡ false → has_bye qs ≡ false
   behind (Apply n op) qs apply e = e
@@ -124,27 +124,27 @@ module _ {V O R T : Type 0} where
   bye_alone qs (inr (p ∷ ps, e, none)) =
       let same : p ≡ Bye = cc in absurd (let bad : has_bye (Bye ∷ ps) ≡ false = subst (λ x. has_bye (x ∷ ps) ≡ false) same none in cc)
 
-  no_answers : (qs : List (Request V O R T)) (as : List (Answer V O R T)) → qs ≡ [] → AllZip Fits qs as → as ≡ []
+  no_answers : (qs : List (Request V O R T)) (answers : List (Answer V O R T)) → qs ≡ [] → AllZip Fits qs answers → answers ≡ []
   no_answers [] [] e fits = refl
-  no_answers [] (a ∷ as) e fits = absurd fits
-  no_answers (q ∷ qs) as e fits = absurd cc
+  no_answers [] (a ∷ answers) e fits = absurd fits
+  no_answers (q ∷ qs) answers e fits = absurd cc
 
   -- where all are applies each answer is a reply, and a Bye behind them has one more
   pub replied_all :
-      (qs : List (Request V O R T)) (as : List (Answer V O R T)) → AllByRecursion IsOfTrustee qs → (has_bye qs ≡ false) ⊎ EndsInBye qs → AllZip Fits qs as
-      → IsPrefix (map (λ r. Replied r) (replied_in as)) as
+      (qs : List (Request V O R T)) (answers : List (Answer V O R T)) → AllByRecursion IsOfTrustee qs → (has_bye qs ≡ false) ⊎ EndsInBye qs → AllZip Fits qs answers
+      → IsPrefix (map (λ r. Replied r) (replied_in answers)) answers
   replied_all [] [] all last fits = ([], refl)
-  replied_all [] (a ∷ as) all last fits = absurd fits
+  replied_all [] (a ∷ answers) all last fits = absurd fits
   replied_all (q ∷ qs) [] all last fits = absurd fits
-  replied_all (Apply n op ∷ qs) (Replied r ∷ as) all last fits =
-      let (rest, e) = replied_all qs as all.1 (apply_last (Apply n op) qs tt last) fits.1 in (rest, ap (λ l. Replied r ∷ l) e)
-  replied_all (Bye ∷ qs) (ByeDone ∷ as) all last fits =
-      let none : as ≡ [] = no_answers qs as (bye_alone qs last) fits.1 in
+  replied_all (Apply n op ∷ qs) (Replied r ∷ answers) all last fits =
+      let (rest, e) = replied_all qs answers all.1 (apply_last (Apply n op) qs tt last) fits.1 in (rest, ap (λ l. Replied r ∷ l) e)
+  replied_all (Bye ∷ qs) (ByeDone ∷ answers) all last fits =
+      let none : answers ≡ [] = no_answers qs answers (bye_alone qs last) fits.1 in
       subst (λ l. IsPrefix (map (λ r. Replied r) (replied_in (ByeDone ∷ l))) (ByeDone ∷ l)) (sym none) (ByeDone ∷ [], refl)
-  replied_all (Entrust v ∷ qs) (a ∷ as) all last fits = absurd all.0
-  replied_all (Launch n t ∷ qs) (a ∷ as) all last fits = absurd all.0
-  replied_all (Grant n d ∷ qs) (a ∷ as) all last fits = absurd all.0
-  replied_all (Release n ∷ qs) (a ∷ as) all last fits = absurd all.0
-  replied_all (Reclaim n ∷ qs) (a ∷ as) all last fits = absurd all.0
-  replied_all (Apply n op ∷ qs) (a ∷ as) all last fits = absurd fits.0
-  replied_all (Bye ∷ qs) (a ∷ as) all last fits = absurd fits.0
+  replied_all (Entrust v ∷ qs) (a ∷ answers) all last fits = absurd all.0
+  replied_all (Launch n t ∷ qs) (a ∷ answers) all last fits = absurd all.0
+  replied_all (Grant n d ∷ qs) (a ∷ answers) all last fits = absurd all.0
+  replied_all (Release n ∷ qs) (a ∷ answers) all last fits = absurd all.0
+  replied_all (Reclaim n ∷ qs) (a ∷ answers) all last fits = absurd all.0
+  replied_all (Apply n op ∷ qs) (a ∷ answers) all last fits = absurd fits.0
+  replied_all (Bye ∷ qs) (a ∷ answers) all last fits = absurd fits.0

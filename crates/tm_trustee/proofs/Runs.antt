@@ -79,19 +79,19 @@ module _ {V O R T : Type 0} where
             ]
       ]
 
-module _ {O R T : Type 0} where
+module _ {O T : Type 0} where
   -- an ask that does not go above, or of no object, asks nothing of a greater trustee
   below_asks :
-      (setup : Setup) (u by ticket v x : ℕ) (op : O) (task : T) → setup.number < u → v ≤ setup.number
+      (R : Type 0) (setup : Setup) (u by ticket v x : ℕ) (op : O) (task : T) → setup.number < u → v ≤ setup.number
       → ask_of {O = O} {R = R} {T = T} setup u by ticket (Ask v x op task) ≡ []
-  below_asks setup u by ticket v x op task lt le =
+  below_asks R setup u by ticket v x op task lt le =
       let ne : v ≢ u = λ e. absurd (omega (arith, lt, le, e)) in
       rw (ne_eqb v u ne) refl
 
   none_asks :
-      (setup : Setup) (u by ticket v x : ℕ) (op : O) (task : T) → length (ids_above setup v) ≤ x
+      (R : Type 0) (setup : Setup) (u by ticket v x : ℕ) (op : O) (task : T) → length (ids_above setup v) ≤ x
       → ask_of {O = O} {R = R} {T = T} setup u by ticket (Ask v x op task) ≡ []
-  none_asks setup u by ticket v x op task le =
+  none_asks R setup u by ticket v x op task le =
       elim (cases_eq v u) [
         | inl e ↦
             let test : nat_lt x (length (ids_above setup u)) ≡ false = le-ltb x (length (ids_above setup u)) (subst (λ w. length (ids_above setup w) ≤ x) e le) in
@@ -101,10 +101,10 @@ module _ {O R T : Type 0} where
 
 module _ {R T : Type 0} where
   told_none : (u : ℕ) (ws : List (Work T)) (ticket : ℕ) (event : Event R) → ((r : R) → event ≢ Reply r) → told_by u ws ticket event ≡ []
-  told_none u ws ticket Begin no = refl
-  told_none u ws ticket (Reply r) no = absurd (no r refl)
-  told_none u ws ticket NotAbove no = refl
-  told_none u ws ticket NoObject no = refl
+  told_none u ws ticket Begin never = refl
+  told_none u ws ticket (Reply r) never = absurd (never r refl)
+  told_none u ws ticket NotAbove never = refl
+  told_none u ws ticket NoObject never = refl
 
 module _ {O R T : Type 0} where
   resumed_here : (ws : List (Work T)) (i id : ℕ) (next : Next O T R) → i ≡ id → cond (i == id) (works_resumed ws next) ws ≡ works_resumed ws next
@@ -146,10 +146,10 @@ module _ {V O R T : Type 0} where
         | inr goes ↦
             elim goes [
               | inl below ↦
-                  ap (λ l. l ++ asks_of setup u es) (below_asks setup u i t v x op task lt below.0)
+                  ap (λ l. l ++ asks_of setup u es) (below_asks R setup u i t v x op task lt below.0)
                   ∙ run_asks setup u id ticket NotAbove es last lt below.1
               | inr none ↦
-                  ap (λ l. l ++ asks_of setup u es) (none_asks setup u i t v x op task none.1) ∙ run_asks setup u id ticket NoObject es last lt none.2
+                  ap (λ l. l ++ asks_of setup u es) (none_asks R setup u i t v x op task none.1) ∙ run_asks setup u id ticket NoObject es last lt none.2
             ]
       ]
 
@@ -157,15 +157,15 @@ module _ {V O R T : Type 0} where
   told_no_more :
       (kind : Kind V O R T) (s : State V O R T) (setup : Setup) (u id ticket : ℕ) (event : Event R) (es : List (Entry V O R T)) (last : Next O T R)
       → ((r : R) → event ≢ Reply r) → IsRunOf setup id ticket event es last → replies_of kind s u es ≡ []
-  told_no_more kind s setup u id ticket event [] last no run = absurd run
-  told_no_more kind s setup u id ticket event (By c k q a ∷ es) last no run = absurd run
-  told_no_more kind s setup u id ticket event (Sent c room ∷ es) last no run = absurd run
-  told_no_more kind s setup u id ticket event (Resume i t e (Done r) ∷ es) last no run =
+  told_no_more kind s setup u id ticket event [] last never run = absurd run
+  told_no_more kind s setup u id ticket event (By c k q a ∷ es) last never run = absurd run
+  told_no_more kind s setup u id ticket event (Sent c room ∷ es) last never run = absurd run
+  told_no_more kind s setup u id ticket event (Resume i t e (Done r) ∷ es) last never run =
       let s' = after kind s (Resume i t e (Done r)) in
-      ap (λ l. l ++ replies_of kind s' u es) (told_none u (works_at s i) t e (λ r is. no r (sym run.2 ∙ is))) ∙ ap (replies_of kind s' u) run.3
-  told_no_more kind s setup u id ticket event (Resume i t e (Ask v x op task) ∷ es) last no run =
+      ap (λ l. l ++ replies_of kind s' u es) (told_none u (works_at s i) t e (λ r is. never r (sym run.2 ∙ is))) ∙ ap (replies_of kind s' u) run.3
+  told_no_more kind s setup u id ticket event (Resume i t e (Ask v x op task) ∷ es) last never run =
       let s' = after kind s (Resume i t e (Ask v x op task)) in
-      ap (λ l. l ++ replies_of kind s' u es) (told_none u (works_at s i) t e (λ r is. no r (sym run.2 ∙ is)))
+      ap (λ l. l ++ replies_of kind s' u es) (told_none u (works_at s i) t e (λ r is. never r (sym run.2 ∙ is)))
       ∙ elim run.3 [
         | inl stops ↦ ap (replies_of kind s' u) stops.0
         | inr goes ↦

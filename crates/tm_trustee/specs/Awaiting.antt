@@ -15,11 +15,12 @@ abbrev pub IsAskAt : Setup → ℕ → Awaits → Type 0
 IsAskAt setup u Start = ⊥
 IsAskAt setup u (AskOf v i) = (v ≡ u) × (i < length (ids_above setup u))
 
-module _ {V O R T : Type 0} where
+module _ {O T : Type 0} where
   -- the ask of a launch on an id is among some
   abbrev pub IsAskedBy : ℕ → Work T → List (NestedAsk O) → Type 0
   IsAskedBy id w asks = (a : NestedAsk O) × IsAmong a asks × (a.by ≡ id) × (a.ticket ≡ w.ticket)
 
+module _ {V O R T : Type 0} where
   -- a launch on an id awaits the reply to an ask of a greater trustee that is pending
   abbrev pub IsWaiting : Kind V O R T → State V O R T → List (Entry V O R T) → ℕ → Work T → Type 0
   IsWaiting kind opening done id w =

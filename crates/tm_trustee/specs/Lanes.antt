@@ -23,6 +23,12 @@ use Rattle.tm_trustee.specs.declared.stage.Stage.{Stage}
 use Rattle.tm_trustee.specs.declared.stage.Stage.TheVariants.{Before, Out, Over}
 use Rattle.tm_trustee.specs.declared.lane.Lane.{Lane}
 
+-- where the answer to a Bye came, it is over
+abbrev pub after_answers_lem : Stage → Stage
+after_answers_lem Before = Before
+after_answers_lem Out = Over
+after_answers_lem Over = Over
+
 module _ {V O R T : Type 0} where
   -- a launch that was handed out is the first of its object, and made an ask
   abbrev pub IsAsker : State V O R T → Ticket (Pending T) → NestedAsk O → Type 0
@@ -52,15 +58,9 @@ module _ {V O R T : Type 0} where
     pub waits_room : lane.waits.capacity ≡ opening.setup.config.objects
     pub came_room : lane.came.capacity ≡ MOST_REQUESTS
 
-  -- where the answer to a Bye came, it is over
-  abbrev pub after_answers : Stage → Stage
-  after_answers Before = Before
-  after_answers Out = Over
-  after_answers Over = Over
-
   -- answers came: the replies among them are to be told
   pub record TakesIn (answers : List (Answer V O R T)) (lane becomes : Lane V O R T) : Type 0 where
-    pub stage : becomes.stage ≡ after_answers lane.stage
+    pub stage : becomes.stage ≡ after_answers_lem lane.stage
     pub names : becomes.names ≡ lane.names
     pub askers : becomes.askers ≡ lane.askers
     pub waits : becomes.waits ≡ lane.waits
@@ -69,7 +69,7 @@ module _ {V O R T : Type 0} where
 
   -- the first asks that wait were sent, at most 16
   pub record LetsGo (batch : List (Request V O R T)) (lane becomes : Lane V O R T) : Type 0 where
-    pub batch : batch ≡ take MOST_REQUESTS lane.waits.items
+    pub is_first : batch ≡ take MOST_REQUESTS lane.waits.items
     pub stage : becomes.stage ≡ lane.stage
     pub names : becomes.names ≡ lane.names
     pub askers : becomes.askers ≡ lane.askers

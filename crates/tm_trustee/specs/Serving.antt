@@ -36,7 +36,7 @@ module _ {V O R T : Type 0} where
   GoesOn old new = (es : List (Entry V O R T)) × (new ≡ old ++ es) × (resumes_in es ≡ 0)
 
   -- what a trustee has is current: it represents the log of its side and then what was resumed since its last answer
-  pub record IsCurrent (kind : Kind V O R T) (opening : State V O R T) (log since : List (Entry V O R T)) (state : StateView V) : Type 0 where
+  pub record IsCurrent (kind : Kind V O R T) (opening : State V O R T) (log since : List (Entry V O R T)) (state : StateView V O R T) : Type 0 where
     pub represents : Represents kind opening (log ++ since) state
     pub only : AreResumes since
 

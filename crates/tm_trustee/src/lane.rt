@@ -2,7 +2,7 @@
 ghost use Rattle.std.specs.Prelude.{◌≡◌, ◌+◌, ◌^◌, ◌<◌, ◌≤◌, [], ◌∷◌, ◌++◌, length, take, drop, map, filter, ◌==◌, IfOk};
 ghost use Rattle.tm_batch.specs.declared.limits.TheConstants.{MOST_REQUESTS};
 ghost use Rattle.tm_trustee.specs.NestedAsks.{replied_in};
-ghost use Rattle.tm_trustee.specs.Lanes.{IsNewLane, AreNewLanes, TakesIn, LetsGo};
+ghost use Rattle.tm_trustee.specs.Lanes.{IsNewLane, AreNewLanes, TakesIn, LetsGo, after_answers_lem};
 
 use crate::stage::Stage;
 use std::alloc::{AllocError, Global};
@@ -73,6 +73,16 @@ fn take_one<S: FitsAnswers>(waits: &mut HeapCircularBuffer<Request<S>>, batch: &
     let _ = batch.push(request);
 }
 
+/// Where the answer to a `Bye` came, it is over.
+fn after_answers(stage: Stage) -> Stage
+    ensures { result ≡ after_answers_lem stage }
+{
+    match stage {
+        Stage::Before => Stage::Before,
+        Stage::Out | Stage::Over => Stage::Over,
+    }
+}
+
 impl<S: FitsAnswers> Lane<S> {
     /// What a trustee keeps at first of trustee `number`, of the objects that it holds above, with room for so many
     /// asks.
@@ -129,8 +139,6 @@ impl<S: FitsAnswers> Lane<S> {
             let answer = answers.remove(0);
             self.note(answer);
         }
-        if self.stage == Stage::Out {
-            self.stage = Stage::Over;
-        }
+        self.stage = after_answers(self.stage);
     }
 }

@@ -1,6 +1,7 @@
 //! A trustee and its turns.
 ghost use Rattle.std.specs.Prelude.{◌≡◌, ◌+◌, ◌≤◌, ◌↔◌, IsTrue, All, IfOk, IfErr, length, slice_get, List};
 ghost use Rattle.std.specs.declared.option.Option.TheVariants.{Some};
+ghost use Rattle.tm_state.specs.Asking.{TellsEnd};
 ghost use Rattle.tm_trustee.specs.Above.{SaysByeAt, all_moves_up};
 ghost use Rattle.tm_trustee.specs.AboveAt.{EachAt};
 ghost use Rattle.tm_trustee.specs.Begun.{IsBeginnable, HasBegun, IsNewHome, IsNewSeat};
@@ -198,7 +199,8 @@ impl<S: FitsBatches, P: PairTable<S>> Trustee<S, P> {
 
     /// Says `Bye` at each side above where that was not done, if `all` below have. How many were said.
     fn say_byes(&mut self, tables: &mut [P], all: bool) -> u64
-        requires { IsReady P.theory S.kind tables.old self.old }
+        requires ready { IsReady P.theory S.kind tables.old self.old }
+        requires told { TellsEnd S.kind self.old.state all }
         ensures ready { IsReady P.theory S.kind tables.new self.new }
         ensures says { EachAt (λ n was now before after. SaysByeAt P.theory (IsTrue all) was now before after) (self.old.number + 1) tables.old tables.new self.old.above.items self.new.above.items }
         ensures as_many { length self.new.above.items ≡ length self.old.above.items }

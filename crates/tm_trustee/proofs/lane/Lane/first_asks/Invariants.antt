@@ -1,5 +1,5 @@
 use Rattle.std.proofs.Common.{◌≡◌, take, drop}
-use Rattle.tm_trustee.proofs.lane.first_asks.Given as goal
+use Rattle.tm_trustee.proofs.lane.Lane.first_asks.Given as goal
 
 -- the first that waited are in the batch
 abbrev pub invariant-loop : goal.invariant-loop

@@ -1,7 +1,7 @@
 use Rattle.std.proofs.Common.{◌++◌, take, drop, ◌∙◌, ap}
 use Rattle.tm_trustee.specs.declared.lane.Lane.{Lane}
 use Rattle.tm_trustee.proofs.Fronts.{front_more, rest_less}
-use Rattle.tm_trustee.proofs.lane.first_asks.Goals as goal
+use Rattle.tm_trustee.proofs.lane.Lane.first_asks.Goals as goal
 
 pub loop-preserved : goal.loop-preserved
 loop-preserved g c =
