@@ -3,9 +3,15 @@ pub mod BatchKeeps
 pub mod BatchLeaves
 pub mod BatchMore
 pub mod BatchRuns
+pub mod TaskRuns
+pub mod LaunchLists
 pub mod OpenedByes
 pub mod OpenedObjects
 pub mod OpenedState
+pub mod ReadyQueues
+pub mod ResumeKeeps
+pub mod ResumeLands
+pub mod ResumeRuns
 pub mod RowsApply
 pub mod RowsEntrust
 pub mod RowsGivenUp

@@ -69,7 +69,7 @@ module _ {V O R T : Type 0} where
 
   -- all holds on an object and its launches are fewer than a `u64` counts
   pub total_few :
-      {opening s : State V O R T} {c : ℕ} {q : Request V O R T} {h : StateView V} {id : ℕ} → IsAsked opening s c q h → (at : HeldAt s h c id)
+      {opening s : State V O R T} {c : ℕ} {q : Request V O R T} {h : StateView V O R T} {id : ℕ} → IsAsked opening s c q h → (at : HeldAt s h c id)
       → total (live_of at.object) < 18446744073709551615
   total_few {opening} {s} {id = id} asked at =
       let o = at.object in

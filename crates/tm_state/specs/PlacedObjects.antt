@@ -20,7 +20,7 @@ module _ {V : Type 0} where
     pub gifts : s.gifts ≡ replicate (length s.gifts) []
     pub places : length s.gifts < 2 ^ 32
 
-  module _ (O R T : Type 0) where
+  module _ (T : Type 0) where
     -- an object of the build is placed, with a hold of each holder
     abbrev pub placed : First V → Stock V → Stock V
     placed f s = record s {
@@ -28,6 +28,7 @@ module _ {V : Type 0} where
       live = s.live ++ map live_of (opened {T = T} (length s.gifts) s.next_id (f ∷ []));
     }
 
+  module _ (O R T : Type 0) where
     -- what trustee `number` has before anything runs, where the objects `front` of the build are placed on it
     abbrev pub begun_with : ℕ → Config → List (First V) → StateView V O R T
     begun_with number config front = record {

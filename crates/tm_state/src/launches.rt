@@ -22,7 +22,7 @@ pub(crate) struct Launches<S: Entrusted> {
 }
 
 impl<S: Entrusted> Model for Launches<S> {
-    ghost use Rattle.std.specs.Prelude.{◌≡◌};
+    ghost use Rattle.std.specs.Prelude.{◌≡◌, ◌≤◌, length};
     ghost use Rattle.tm_state.specs.Launches.{Latched, latched_code, AreFirst, AreBehind};
 
     ghost Value = { Latched S.Task };
@@ -31,7 +31,7 @@ impl<S: Entrusted> Model for Launches<S> {
 
     ghost view = { λ a. record { launched = a.latches.tickets; begins = a.begins.items; room = a.latches.room } };
 
-    ghost invariant = { λ a. AreFirst a.latches.tickets a.begins.items × AreBehind a.latches.tickets × (a.begins.capacity ≡ a.latches.room) };
+    ghost invariant = { λ a. AreFirst a.latches.tickets a.begins.items × AreBehind a.latches.tickets × (a.begins.capacity ≡ a.latches.room) × (length a.latches.tickets ≤ a.latches.room) };
 }
 
 impl<S: Entrusted> Launches<S> {

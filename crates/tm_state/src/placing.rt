@@ -11,7 +11,7 @@ use tm_seq::Entrusted;
 // Places an object of the build: its first holder entrusts it, and each other is given a hold.
 pub(crate) fn place_on<S: Entrusted>(objects: &mut Objects<S>, object: First<S>)
     requires { MayPlace object objects.old }
-    ensures { objects.new ≡ placed S.Op S.Reply S.Task object objects.old }
+    ensures { objects.new ≡ placed S.Task object objects.old }
 {
     // What holds of any stock says that its counts fit.
     objects.known();

@@ -15,7 +15,7 @@ pub(crate) struct Ready<S: Entrusted> {
 }
 
 impl<S: Entrusted> Model for Ready<S> {
-    ghost use Rattle.std.specs.Prelude.{◌≡◌, ◌≤◌, List, length, map, All};
+    ghost use Rattle.std.specs.Prelude.{◌≡◌, List, map, All};
     ghost use Rattle.std.specs.Coded.{coded_list};
     ghost use Rattle.tm_batch.specs.declared.limits.TheConstants.{WINDOW};
     ghost use Rattle.tm_batch.specs.declared.message.Completion.{Completion};
@@ -27,7 +27,7 @@ impl<S: Entrusted> Model for Ready<S> {
 
     ghost view = { λ a. map (λ q. q.items) a.queues.items };
 
-    ghost invariant = { λ a. All (λ n. n ≡ WINDOW) (map (λ q. q.capacity) a.queues.items) × All (λ ready. length ready ≤ WINDOW) (map (λ q. q.items) a.queues.items) };
+    ghost invariant = { λ a. All (λ n. n ≡ WINDOW) (map (λ q. q.capacity) a.queues.items) };
 }
 
 impl<S: Entrusted> Ready<S> {

@@ -117,7 +117,7 @@ impl<S: Entrusted> TrusteeState<S> {
     // Places an object of the build.
     fn place(&mut self, object: First<S>)
         requires { MayPlace object self.old.stock }
-        ensures { self.new ≡ record self.old { stock = placed S.Op S.Reply S.Task object self.old.stock } }
+        ensures { self.new ≡ record self.old { stock = placed S.Task object self.old.stock } }
     {
         place_on(&mut self.objects, object);
     }
