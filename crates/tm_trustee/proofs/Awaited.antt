@@ -119,7 +119,7 @@ IsStop setup (Done r) = Unit {0}
 IsStop setup (Ask u x op task) = (setup.number < u) × (x < length (ids_above setup u))
 
 module _ {O T : Type 0} where
-  asks_itself :
+  pub asks_itself :
       (R : Type 0) (setup : Setup) (u by ticket x : ℕ) (op : O) (task : T) → x < length (ids_above setup u)
       → ask_of {O = O} {R = R} {T = T} setup u by ticket (Ask u x op task) ≡ record { by = by; ticket = ticket; id = slice_index_or (ids_above setup u) x 0; op = op } ∷ []
   asks_itself R setup u by ticket x op task lt = rw (eq-eqb u u refl, lt-ltb x (length (ids_above setup u)) lt) refl
@@ -189,7 +189,7 @@ module _ {V O R T : Type 0} where
     abbrev asked_last : ℕ → List (NestedAsk O)
     asked_last u = ask_of opening.setup u id ticket last
 
-    run_lands : (works_at t' id ≡ works_resumed (w ∷ ws) last) × ((d : ℕ) → d ≢ id → works_at t' d ≡ works_at t d)
+    pub run_lands : (works_at t' id ≡ works_resumed (w ∷ ws) last) × ((d : ℕ) → d ≢ id → works_at t' d ≡ works_at t d)
     run_lands =
         let lands = state-append kind opening log es in
         let parts = (legal_logs_join kind opening log es).0 legal in
@@ -224,7 +224,10 @@ module _ {V O R T : Type 0} where
         ∙ drop-append-le (n + k) asks (asked_last u) most ∙ ap (λ l. l ++ asked_last u) (drop_twice n k asks)
 
     -- of the asks that were pending those that are so still, all of other objects
-    record IsRest (u : ℕ) (rest : List (NestedAsk O)) : Type 0 where
+    pub record IsRest (u : ℕ) (rest : List (NestedAsk O)) : Type 0 where
+      pub gone : List (NestedAsk O)
+      pub split : pending_of kind opening u log ≡ gone ++ rest
+      pub tickets : map (λ a. a.ticket) gone ≡ map (λ t. t.ticket) (told_by u (w ∷ ws) ticket event)
       pub pending : pending_of kind opening u (log ++ es) ≡ rest ++ asked_last u
       pub others : AllByRecursion (λ a. a.by ≢ id) rest
       pub keeps : (a : NestedAsk O) → IsAmong a (pending_of kind opening u log) → a.by ≢ id → IsAmong a rest
@@ -261,6 +264,9 @@ module _ {V O R T : Type 0} where
         let told : length (told_by u (w ∷ ws) ticket event) ≡ 0 = ap (λ l. length l) nothing in
         let was = are.enough u lt in
         record {
+          gone = [];
+          split = refl;
+          tickets = sym (ap (map (λ t. t.ticket)) nothing);
           pending = run_pending u 0 lt told (omega (arith, was));
           others = not_mine u never (are.asked u lt);
           keeps = λ a among ne. among;
@@ -278,9 +284,13 @@ module _ {V O R T : Type 0} where
 
     -- where the reply to the first ask that is pending at trustee u was told
     rest_told :
-        (u : ℕ) (a : NestedAsk O) (rest : List (NestedAsk O)) → opening.setup.number < u → length (told_by u (w ∷ ws) ticket event) ≡ 1
+        (u : ℕ) (a : NestedAsk O) (rest : List (NestedAsk O)) (r : R) → opening.setup.number < u
+        → told_by u (w ∷ ws) ticket event ≡ record { ticket = ticket; reply = r } ∷ []
         → pending_of kind opening u log ≡ a ∷ rest → a.by ≡ id → IsRest u rest
-    rest_told u a rest lt told e by =
+    rest_told u a rest r lt tells e by =
+        let told : length (told_by u (w ∷ ws) ticket event) ≡ 1 = ap (λ (l : List (ToldReply R)). length l) tells in
+        let all_first = subst (λ l. AllByRecursion (λ b. HasFirst (works_at t b.by) (λ v. (v.ticket ≡ b.ticket) × IsAskAt opening.setup u v.awaits)) l) e (are.asked u lt) in
+        let own = subst (λ l. HasFirst l (λ v. (v.ticket ≡ a.ticket) × IsAskAt opening.setup u v.awaits)) (ap (works_at t) by ∙ here) all_first.0 in
         let n = length (replies_of kind opening u log) in
         let asks = asks_of opening.setup u log in
         let some : length (drop n asks) ≡ length (a ∷ rest) = ap (λ l. length l) e in
@@ -288,15 +298,18 @@ module _ {V O R T : Type 0} where
         let once = subst (λ l. IsDistinct nat_eq (map (λ x. x.by) l)) e (are.once u lt) in
         let most : n + 1 ≤ length asks = omega (arith, some, size) in
         record {
+          gone = a ∷ [];
+          split = e;
+          tickets = ap (λ n. n ∷ []) (sym own.0 ∙ mine) ∙ sym (ap (map (λ t. t.ticket)) tells);
           pending = run_pending u 1 lt told most ∙ ap (λ l. drop 1 l ++ asked_last u) e;
           others = all_weaker _ _ rest (λ b ne is. ne (is ∙ sym by)) (apart_tail (λ x. x.by) a rest once);
           keeps = λ b among ne. kept_among a rest (pending_of kind opening u log) b e by among ne;
-          asked = (subst (λ l. AllByRecursion (λ b. HasFirst (works_at t b.by) (λ v. (v.ticket ≡ b.ticket) × IsAskAt opening.setup u v.awaits)) l) e (are.asked u lt)).1;
+          asked = all_first.1;
           once = distinct_tail (λ x. x.by) a rest once;
           enough = more_asks u 1 lt told most;
         }
 
-    rest_of : (u : ℕ) → opening.setup.number < u → (rest : List (NestedAsk O)) × IsRest u rest
+    pub rest_of : (u : ℕ) → opening.setup.number < u → (rest : List (NestedAsk O)) × IsRest u rest
     rest_of u lt =
         elim rightly [
           | inl begins ↦
@@ -307,9 +320,9 @@ module _ {V O R T : Type 0} where
               elim (cases_eq v u) [
                 | inl e ↦
                     let (a, rest, pending, by) = first in
-                    let one : length (told_by u (w ∷ ws) ticket event) ≡ 1 =
-                    ap (λ (l : List (ToldReply R)). length l) tells ∙ ap (λ b. length {A = ToldReply R} (cond b (record { ticket = ticket; reply = r } ∷ []) [])) (eq-eqb v u e) in
-                    (rest, rest_told u a rest lt one (subst (λ m. pending_of kind opening m log ≡ a ∷ rest) e pending) by)
+                    let one : told_by u (w ∷ ws) ticket event ≡ record { ticket = ticket; reply = r } ∷ [] =
+                    tells ∙ ap (λ b. cond b (record { ticket = ticket; reply = r } ∷ []) []) (eq-eqb v u e) in
+                    (rest, rest_told u a rest r lt one (subst (λ m. pending_of kind opening m log ≡ a ∷ rest) e pending) by)
                 | inr ne ↦
                     let none : told_by u (w ∷ ws) ticket event ≡ [] =
                     tells ∙ ap (λ b. cond b (record { ticket = ticket; reply = r } ∷ []) []) (ne_eqb v u ne) in

@@ -12,6 +12,10 @@ use Rattle.tm_model.specs.Holds.{has_bye}
 use Rattle.tm_model.specs.Orderly.{IsOfTrustee}
 use Rattle.tm_pair.specs.Views.{BatchView, ClientView}
 use Rattle.tm_pair.specs.Calls.{IsPending, Gets, Publishes, IsIdle}
+use Rattle.tm_seq.specs.Kind.{Kind}
+use Rattle.tm_model.specs.Ran.{ran}
+use Rattle.tm_model.specs.State.{State}
+use Rattle.tm_pair.specs.Sides.{HasRun, IsGoodClient}
 use Rattle.tm_pair.specs.Theory.{Theory, KeepsSides}
 use Rattle.tm_trustee.specs.Above.{one_if, published, moves_up, IsAt, Counts}
 use Rattle.tm_trustee.specs.AboveAt.{MovesUp}
@@ -132,3 +136,35 @@ module _ {V O R T Table Client Owner : Type 0} (theory : Theory V O R T Table Cl
         moved = subst (λ b. Counts b (moves_up before (theory.client_view new))) (sym is) zero;
         keeps = kept;
       }
+
+  -- where the look left the table and what its side stands for
+  pub may_still :
+      (was now : Table) (old mid : Client) (lane : Lane V O R T) → now ≡ was → theory.client_view mid ≡ theory.client_view old
+      → MaySendAsks theory was old lane → MaySendAsks theory now mid lane
+  may_still was now old mid lane same view may = record {
+    held = subst (λ (x : Table). AllByRecursion (AppliesHeld (theory.opening x) (theory.client_view mid).place) lane.waits.items) (sym same)
+        (subst (λ (v : ClientView V O R T). AllByRecursion (AppliesHeld (theory.opening was) v.place) lane.waits.items) (sym view) may.held);
+    unsaid = λ some. ap (λ v. has_bye v.sent) view ∙ may.unsaid some;
+    room = may.room;
+    told = may.told;
+  }
+
+  pub idles_up :
+      (was between now : Table) (old mid new : Client) (lane becomes : Lane V O R T) (sent : Bool) → AllByRecursion IsOfTrustee (theory.client_view old).sent
+      → IsAt lane.stage (theory.client_view old) → MaySendAsks theory was old lane → IsIdle (theory.client_view old) (theory.client_view mid) → between ≡ was
+      → KeepsSides theory was between old mid → SendsWaits theory between now mid new lane becomes sent
+      → MovesUp theory (ExchangesLane theory) was now old new lane becomes sent
+  idles_up was between now old mid new lane becomes sent asked at may idle same keeps sends =
+      sends_up was now old mid new lane becomes sent asked at may idle (subst (λ x. KeepsSides theory was x old mid) same keeps)
+      (subst (λ x. SendsWaits theory x now mid new lane becomes sent) same sends)
+
+module _ {V O R T : Type 0} where
+  -- no more answers come than a batch has requests
+  pub got_few :
+      (kind : Kind V O R T) (home : State V O R T) (old new : ClientView V O R T) (a : AnswerBatch V O R T) → IsGoodClient kind home old → Gets a old new
+      → length a.answers.items ≤ MOST_REQUESTS
+  got_few kind home old new a good gets =
+      let (b, room, are) = gets.answers in
+      let most = (subst (λ o. HasRun o old.sent (ran old.place old.seen)) are.out good.runs).1 in
+      let many = are.answers in
+      omega (arith, most, many)

@@ -1,6 +1,7 @@
 -- The front of a list, an element at a time.
 use Rattle.std.proofs.Common.{◌≡◌, ◌≢◌, ℕ, zero, suc, ◌+◌, ◌<◌, true, false, List, [], ◌∷◌, ◌++◌, take, drop, length, slice_index_or, refl, sym, ◌∙◌, ap, arith}
-use Rattle.std.specs.Prelude.{remove, ◌==◌}
+use Rattle.std.specs.Prelude.{remove, ◌==◌, slice_get}
+use Rattle.std.specs.declared.option.Option.TheVariants.{None, Some}
 use Rattle.tm_core.proofs.CallerLemmas.{is_same}
 
 module _ {X : Type 0} where
@@ -35,3 +36,16 @@ module _ {X : Type 0} where
   pub some_of : (xs : List X) → false ≡ (length xs == 0) → xs ≢ []
   some_of [] e none = absurd cc
   some_of (x ∷ xs) e none = absurd cc
+
+  pub one_front : (xs : List X) (x : X) → Some x ≡ slice_get xs 0 → take 1 xs ≡ x ∷ []
+  one_front [] x e = absurd cc
+  one_front (y ∷ xs) x e = let same : y ≡ x = cc in ap (λ z. z ∷ []) same
+
+  pub no_front : (xs : List X) → None ≡ slice_get xs 0 → xs ≡ []
+  no_front [] e = refl
+  no_front (y ∷ xs) e = absurd cc
+
+  -- the first, and the rest
+  pub front_rest : (xs ys : List X) (x : X) → Some x ≡ slice_get xs 0 → ys ≡ drop 1 xs → xs ≡ x ∷ ys
+  front_rest [] ys x e rest = absurd cc
+  front_rest (y ∷ xs) ys x e rest = let same : y ≡ x = cc in ap (λ z. z ∷ xs) same ∙ ap (λ l. x ∷ l) (sym rest)

@@ -51,7 +51,7 @@ all_zip P Q (x ∷ xs) (y ∷ ys) each h = (each x y h.0, all_zip P Q xs ys each
 
 module _ {V O R T : Type 0} where
   -- what was run begins what was sent
-  ran_front : (out : Option (BatchView V O R T)) (sent run : List (Request V O R T)) → HasRun out sent run → IsPrefix run sent
+  pub ran_front : (out : Option (BatchView V O R T)) (sent run : List (Request V O R T)) → HasRun out sent run → IsPrefix run sent
   ran_front None sent run h = ([], h ∙ sym (append-nil run))
   ran_front (Some b) sent run h = (b.requests, h.0)
 

@@ -26,3 +26,7 @@ pub mod Exchanging
 pub mod TurningLanes
 pub mod HeldAbove
 pub mod TurningAll
+pub mod TurningIdle
+pub mod Tying
+pub mod LaneNews
+pub mod Bridging

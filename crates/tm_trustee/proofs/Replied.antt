@@ -9,6 +9,7 @@ use Rattle.tm_model.specs.Fits.{Fits}
 use Rattle.tm_model.specs.Holds.{has_bye}
 use Rattle.tm_model.specs.Orderly.{IsOfTrustee}
 use Rattle.tm_model.specs.Lists.{IsPrefix}
+use Rattle.tm_core.proofs.Lists.{front_empty}
 use Rattle.tm_trustee.specs.NestedAsks.{asked_by, IsApply, replied_in, EndsInBye}
 
 module _ {V O R T : Type 0} where
@@ -148,3 +149,53 @@ module _ {V O R T : Type 0} where
   replied_all (Reclaim n ∷ qs) (a ∷ answers) all last fits = absurd all.0
   replied_all (Apply n op ∷ qs) (a ∷ answers) all last fits = absurd fits.0
   replied_all (Bye ∷ qs) (a ∷ answers) all last fits = absurd fits.0
+
+  no_bye_front : (xs ys : List (Request V O R T)) → has_bye (xs ++ ys) ≡ false → has_bye xs ≡ false
+  no_bye_front [] ys e = refl
+  no_bye_front (Apply n op ∷ xs) ys e = no_bye_front xs ys e
+  no_bye_front (Entrust v ∷ xs) ys e = no_bye_front xs ys e
+  no_bye_front (Launch n t ∷ xs) ys e = no_bye_front xs ys e
+  no_bye_front (Grant n d ∷ xs) ys e = no_bye_front xs ys e
+  no_bye_front (Release n ∷ xs) ys e = no_bye_front xs ys e
+  no_bye_front (Reclaim n ∷ xs) ys e = no_bye_front xs ys e
+  no_bye_front (Bye ∷ xs) ys e = absurd cc
+
+  -- a front of requests of which the last alone may be a Bye has at most that
+  front_ends : (xs rest qs : List (Request V O R T)) → xs ++ rest ≡ qs ++ Bye ∷ [] → has_bye qs ≡ false → (has_bye xs ≡ false) ⊎ EndsInBye xs
+  front_ends [] rest qs e none = inl refl
+  front_ends (x ∷ xs) rest [] e none =
+      let is : x ≡ Bye = cc in
+      let nothing : xs ++ rest ≡ [] = cc in
+      inr ([], ap (λ q. q ∷ xs) is ∙ ap (λ l. Bye ∷ l) (front_empty xs rest nothing), refl)
+  front_ends (x ∷ xs) rest (q ∷ qs) e none =
+      let same : x ≡ q = cc in
+      let later : xs ++ rest ≡ qs ++ Bye ∷ [] = cc in
+      more_front x q xs qs same none (front_ends xs rest qs later (behind_any q qs none))
+    where
+      behind_any : (q : Request V O R T) (qs : List (Request V O R T)) → has_bye (q ∷ qs) ≡ false → has_bye qs ≡ false
+      behind_any (Apply n op) qs e = e
+      behind_any (Entrust v) qs e = e
+      behind_any (Launch n t) qs e = e
+      behind_any (Grant n d) qs e = e
+      behind_any (Release n) qs e = e
+      behind_any (Reclaim n) qs e = e
+      behind_any Bye qs e = absurd cc
+      one_more : (q : Request V O R T) (xs qs : List (Request V O R T)) → has_bye (q ∷ qs) ≡ false → has_bye xs ≡ false → has_bye (q ∷ xs) ≡ false
+      one_more (Apply n op) xs qs e h = h
+      one_more (Entrust v) xs qs e h = h
+      one_more (Launch n t) xs qs e h = h
+      one_more (Grant n d) xs qs e h = h
+      one_more (Release n) xs qs e h = h
+      one_more (Reclaim n) xs qs e h = h
+      one_more Bye xs qs e h = absurd cc
+      more_front :
+          (x q : Request V O R T) (xs qs : List (Request V O R T)) → x ≡ q → has_bye (q ∷ qs) ≡ false → (has_bye xs ≡ false) ⊎ EndsInBye xs
+          → (has_bye (x ∷ xs) ≡ false) ⊎ EndsInBye (x ∷ xs)
+      more_front x q xs qs same none (inl unsaid) = inl (ap (λ r. has_bye (r ∷ xs)) same ∙ one_more q xs qs none unsaid)
+      more_front x q xs qs same none (inr (ps, e, unsaid)) =
+          inr (x ∷ ps, ap (λ l. x ∷ l) e, ap (λ r. has_bye (r ∷ ps)) same ∙ one_more q ps qs none unsaid)
+
+  pub behind_front :
+      (xs ys : List (Request V O R T)) → IsPrefix xs ys → (has_bye ys ≡ false) ⊎ EndsInBye ys → (has_bye xs ≡ false) ⊎ EndsInBye xs
+  behind_front xs ys (rest, e) (inl unsaid) = inl (no_bye_front xs rest (ap has_bye (sym e) ∙ unsaid))
+  behind_front xs ys (rest, e) (inr (qs, is, none)) = front_ends xs rest qs (sym e ∙ is) none

@@ -1,5 +1,5 @@
 -- All sides above at once: what an exchange and a Bye need of each, and what they leave.
-use Rattle.std.proofs.Common.{◌≡◌, ◌≢◌, ℕ, ◌+◌, ◌<◌, ◌≤◌, true, false, List, [], ◌∷◌, ◌++◌, length, map, inl, inr, refl, sym, ◌∙◌, ap, subst, arith, length-append, length-drop}
+use Rattle.std.proofs.Common.{◌≡◌, ◌≢◌, ℕ, ◌+◌, ◌<◌, ◌≤◌, Bool, true, false, List, [], ◌∷◌, ◌++◌, length, map, inl, inr, refl, sym, ◌∙◌, ap, subst, arith, length-append, length-drop}
 use Rattle.std.specs.Prelude.{slice_get}
 use Rattle.std.specs.List.{AllByRecursion}
 use Rattle.std.specs.declared.option.Option.{Option}
@@ -19,7 +19,7 @@ use Rattle.tm_trustee.specs.NestedAsks.{target, asks_of, replies_of, pending_of,
 use Rattle.tm_model.specs.Holds.{has_bye}
 use Rattle.tm_pair.specs.Views.{BatchView, ClientView}
 use Rattle.tm_pair.specs.Theory.{Theory, TheoryLaws}
-use Rattle.tm_state.specs.Asking.{HaveAllEnded}
+use Rattle.tm_state.specs.Asking.{HaveAllEnded, TellsEnd}
 use Rattle.tm_trustee.specs.Above.{unsent, ExchangesAt, SaysByeAt}
 use Rattle.tm_trustee.specs.AboveAt.{IsAbove, EachAt, EachLane, NeedAll}
 use Rattle.tm_trustee.specs.Lanes.{IsLane, after_answers_lem}
@@ -52,6 +52,10 @@ module _ {V O R T Table Client Owner : Type 0} (theory : Theory V O R T Table Cl
   stage_kept was now old new lane becomes (inr (inl (pending, same, did, keeps))) e = ap (λ l. l.stage) same ∙ e
   stage_kept was now old new lane becomes (inr (inr (free, (mid, sent, view, keeps, inl (answer, some, (batch, goes, room, publishes, did, kept)))))) e = goes.stage ∙ e
   stage_kept was now old new lane becomes (inr (inr (free, (mid, sent, view, keeps, inr (answer, none, same, side, stays))))) e = ap (λ l. l.stage) stays ∙ e
+
+  says_of : (was now : Table) (old new : Client) (lane becomes : Lane V O R T) → SaysByeLane theory was now old new lane becomes → SaysByeAt theory (Unit {0}) was now old new
+  says_of was now old new lane becomes (inl h) = h.3
+  says_of was now old new lane becomes (inr h) = h.2
 
   -- a Bye keeps what came
   came_kept : (was now : Table) (old new : Client) (lane becomes : Lane V O R T) → SaysByeLane theory was now old new lane becomes → becomes.came.items ≡ lane.came.items
@@ -298,3 +302,28 @@ module _ {V O R T Table Client Owner : Type 0} (theory : Theory V O R T Table Cl
           let size = length-map u.above.items theory.client_view in
           let (after, ea) = element_at u.above.items i (omega (arith, within, many, size)) in
           (said_one i after lane ea el).1)
+
+  -- what was said is said of the sides
+  pub said_all :
+      (old new : List Table) (t u : Trustee V Table O R T Client Owner) → IsReady theory kind old t
+      → EachLane (SaysByeLane theory) (t.number + 1) old new t.above.items u.above.items t.lanes.items u.lanes.items → length u.lanes.items ≡ length t.lanes.items
+      → EachAt (λ n was now before after. SaysByeAt theory (Unit {0}) was now before after) (t.number + 1) old new t.above.items u.above.items
+  said_all old new t u ready goes lanes_many = λ i was now before after ew en eb ea.
+      let (own, here) = own_table theory kind old t ready in
+      let serving = (at_home theory kind old t own ready here).1 in
+      let within = slice_get_within t.above.items i before eb in
+      let many = serving.above.as_many in
+      let size = length-map t.above.items theory.client_view in
+      let (lane, el) = element_at t.lanes.items i (omega (arith, within, many, size)) in
+      let (becomes, em) = there_too t.lanes.items u.lanes.items i lane lanes_many el in
+      says_of theory was now before after lane becomes (goes i was now before after lane becomes ew en eb ea el em)
+
+  -- all places have said Bye where the answer tells so
+  pub all_ended :
+      (tables : List Table) (t : Trustee V Table O R T Client Owner) → IsReady theory kind tables t → (own : Table) → slice_get tables t.number ≡ Some own
+      → (all : Bool) → TellsEnd kind t.state all → all ≡ true → HaveAllEnded (theory.opening own) (theory.trustee_view t.side).log
+  all_ended tables t ready own here all told e =
+      let current = (at_home theory kind tables t own ready here).1.current in
+      let log = (theory.trustee_view t.side).log in
+      let ended = (told (theory.opening own) (log ++ t.since.items) current.represents).0 e in
+      λ c lt. subst (λ l. has_bye l ≡ true) (same_ran c log t.since.items current.only) (ended c lt)

@@ -10,3 +10,4 @@ pub mod Awaiting
 pub mod Lanes
 pub mod Steps
 pub mod Laws
+pub mod Tasks

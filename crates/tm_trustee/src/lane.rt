@@ -1,7 +1,8 @@
 //! What a trustee keeps of a greater one.
-ghost use Rattle.std.specs.Prelude.{◌≡◌, ◌+◌, ◌^◌, ◌<◌, ◌≤◌, [], ◌∷◌, ◌++◌, length, take, drop, map, filter, ◌==◌, IfOk};
+ghost use Rattle.std.specs.Prelude.{◌≡◌, ◌+◌, ◌^◌, ◌<◌, ◌≤◌, [], ◌∷◌, ◌++◌, length, take, drop, map, filter, ◌==◌, IfOk, IfNone, IfSome};
 ghost use Rattle.tm_batch.specs.declared.limits.TheConstants.{MOST_REQUESTS};
 ghost use Rattle.tm_trustee.specs.NestedAsks.{replied_in};
+ghost use Rattle.tm_trustee.specs.Tasks.{HasPlace, AsksAt, TakesReply};
 ghost use Rattle.tm_trustee.specs.Lanes.{IsNewLane, AreNewLanes, TakesIn, LetsGo, after_answers_lem};
 
 use crate::stage::Stage;
@@ -57,6 +58,24 @@ pub(crate) fn new_lanes<S: FitsAnswers>(
         lanes.push_reserved(Lane::new(alloc, number + i as u32, room, nested)?);
     }
     Ok(lanes)
+}
+
+/// By trustees' numbers, how many objects are held at each: none at trustee `number` and those below it, and so many as
+/// lanes tell at those above it.
+pub(crate) fn held_by<S: FitsAnswers>(
+    alloc: Global,
+    number: u32,
+    lanes: &[Lane<S>],
+) -> Result<Vec<u32>, AllocError>
+    requires few { AllByRecursion (λ lane. length lane.names.items < 2 ^ 32) lanes.now }
+    ensures { IfOk result (λ held. held.items ≡ held_by_lem number lanes.now) }
+{
+    let mut held = Vec::new(alloc);
+    held.resize(number as usize + 1, 0)?;
+    for lane in lanes {
+        held.push(lane.names.len() as u32)?;
+    }
+    Ok(held)
 }
 
 /// Moves the first request that waits, if one does, behind those of a batch that has room.
@@ -125,6 +144,29 @@ impl<S: FitsAnswers> Lane<S> {
         if let Answer::Replied(reply) = answer {
             let _ = self.came.try_push_back(reply);
         }
+    }
+
+    /// An ask of the object of an index waits to be sent, and its launch for the reply.
+    pub(crate) fn ask(&mut self, index: u32, op: S::Op, launch: Launch<S>)
+        requires { HasPlace index self.old }
+        ensures { AsksAt index op launch self.old self.new }
+    {
+        let name = self.names[index as usize];
+        let _ = self.askers.try_push_back(launch);
+        let _ = self.waits.try_push_back(Request::Apply(name, op));
+    }
+
+    /// Takes the first reply that came and was not told, with the launch that asked.
+    pub(crate) fn next_reply(&mut self) -> Option<(Launch<S>, S::Reply)>
+        requires { length self.old.came.items ≤ length self.old.askers.items }
+        ensures none { IfNone result (self.old.came.items ≡ []) }
+        ensures same { IfNone result (self.new ≡ self.old) }
+        ensures takes { IfSome result (λ r. TakesReply r.0 r.1 self.old self.new) }
+    {
+        let reply = self.came.pop_front()?;
+        // There is one for each reply.
+        let launch = self.askers.pop_front()?;
+        Some((launch, reply))
     }
 
     /// Takes in the answers to what was out: the replies are to be told, and a `Bye` that was out is over.

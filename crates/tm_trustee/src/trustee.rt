@@ -12,7 +12,7 @@ ghost use Rattle.tm_trustee.specs.Turn.{ExchangesAll, HasGoneUp, HasResumed, Has
 ghost use Rattle.tm_trustee.specs.declared.stage.Stage.TheVariants.{Over};
 
 use crate::above::{Exchange, SayBye, go_above};
-use crate::lane::{Lane, new_lanes};
+use crate::lane::{Lane, held_by, new_lanes};
 use crate::places::serve_places;
 use crate::served::Served;
 use crate::tasks::resume_lanes;
@@ -40,6 +40,8 @@ pub struct Trustee<S: FitsBatches, P: PairTable<S>> {
     pub(crate) lanes: Vec<Lane<S>>,
     // The objects that it holds above, by their trustees' numbers, in the order of the build.
     pub(crate) nested: Vec<(u32, Name)>,
+    // By trustees' numbers, how many objects it holds at each.
+    pub(crate) held: Vec<u32>,
     // What its last turn moved, or `u64::MAX` where that is more.
     pub(crate) moved: u64,
 }
@@ -121,6 +123,14 @@ impl<S: FitsBatches, P: PairTable<S>> Trustee<S, P> {
                 nested,
             });
         };
+        let Ok(held) = held_by(alloc, number, &lanes) else {
+            return Err(TrusteeRefused {
+                first,
+                side,
+                above,
+                nested,
+            });
+        };
         match TrusteeState::new(alloc, number, config, first) {
             Ok(state) => Ok(Trustee {
                 number,
@@ -131,6 +141,7 @@ impl<S: FitsBatches, P: PairTable<S>> Trustee<S, P> {
                 above,
                 lanes,
                 nested,
+                held,
                 moved: 0,
             }),
             Err(first) => Err(TrusteeRefused {
@@ -225,7 +236,13 @@ impl<S: FitsBatches, P: PairTable<S>> Trustee<S, P> {
         ensures resumed { HasResumed P.theory S.kind self.old self.new result }
         ensures only { self.new ≡ record self.old { state = self.new.state; since = self.new.since; lanes = self.new.lanes } }
     {
-        resume_lanes(&mut self.state, &mut self.since, &mut self.lanes)
+        resume_lanes(
+            &mut self.state,
+            self.number,
+            &self.held,
+            &mut self.since,
+            &mut self.lanes,
+        )
     }
 
     /// Makes one turn. At each greater trustee it looks for answers if a batch is out, and else sends the first asks that

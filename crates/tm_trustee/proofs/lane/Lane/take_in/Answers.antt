@@ -1,5 +1,6 @@
-use Rattle.std.proofs.Common.{rules, ◌≡◌, ◌<◌, ◌≤◌, ◌++◌, [], ◌∷◌, ◌∙◌, length, ap, subst, arith, append-nil, sym, refl}
+use Rattle.std.proofs.Common.{rules, ◌≡◌, ◌+◌, ◌<◌, ◌≤◌, ◌++◌, [], ◌∷◌, ◌∙◌, length, ap, subst, arith, append-nil, sym, refl}
 use Rattle.tm_trustee.specs.declared.lane.Lane.{Lane}
+use Rattle.tm_trustee.specs.Lanes.{after_answers_lem}
 use Rattle.tm_trustee.specs.NestedAsks.{replied_in}
 use Rattle.tm_trustee.proofs.Fronts.{removed}
 use Rattle.tm_trustee.proofs.Replied.{noting, noting_room}
@@ -38,7 +39,7 @@ pub returns : goal.returns
 returns g c =
     let none : c.loop-answers.answers.items ≡ [] = search rules in
     let i = c.loop-answers.invariant in record {
-      stage = c.after_answers-self.ensures ∙ ?;
+      stage = c.after_answers-self.ensures ∙ ap (λ (x : Lane _ _ _ _). after_answers_lem x.stage) i.only;
       names = ap (λ (x : Lane _ _ _ _). x.names) i.only;
       askers = ap (λ (x : Lane _ _ _ _). x.askers) i.only;
       waits = ap (λ (x : Lane _ _ _ _). x.waits) i.only;

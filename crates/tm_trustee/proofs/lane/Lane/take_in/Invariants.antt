@@ -1,5 +1,5 @@
 use Rattle.std.proofs.Common.{◌≡◌, ◌+◌, ◌≤◌, ◌++◌, length}
-use Rattle.tm_trustee.specs.Lanes.{replied_in}
+use Rattle.tm_trustee.specs.NestedAsks.{replied_in}
 use Rattle.tm_trustee.proofs.lane.Lane.take_in.Given as goal
 
 -- the replies that were noted, and those that are left, are all
