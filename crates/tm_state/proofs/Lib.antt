@@ -1,4 +1,5 @@
 pub mod BatchAnswers
+pub mod BatchGrows
 pub mod BatchKeeps
 pub mod BatchLeaves
 pub mod BatchMore
@@ -20,5 +21,6 @@ pub mod RowsKeep
 pub mod RowsLaunch
 pub mod RowsLive
 pub mod RowsOrder
+pub mod RowsRoom
 pub mod RowsTotal
 pub mod RowsWorks

@@ -32,7 +32,7 @@ use Rattle.tm_state.specs.Launches.{Pending, AwaitsAny, work_of, works_at}
 use Rattle.tm_state.specs.StateView.{StateView}
 use Rattle.tm_state.specs.Represents.{Keeps}
 use Rattle.tm_state.proofs.LaunchLists.{head_of, first_id}
-use Rattle.tm_state.proofs.ResumeLands.{gone, settled, settled_ask, change_twice, held_total, works_as_many}
+use Rattle.tm_state.proofs.ResumeLands.{ask_next, done_next, gone, settled, settled_ask, change_twice, held_total, works_as_many}
 use Rattle.tm_state.proofs.RowsLaunch.{all_change}
 use Rattle.tm_state.proofs.RowsLive.{found_alike}
 use Rattle.tm_state.proofs.RowsOrder.{sound_ordered}
@@ -67,6 +67,50 @@ module _ {K : Type 0} where
         | inr ne ↦ rw (ne_eqb t.id id ne) (all.0, all_without P id ts all.1)
       ]
 
+module _ {O T : Type 0} where
+  works_of_ask : (R : Type 0) (c : ℕ) (ws : List (Work T)) (u x : ℕ) (op : O) (task : T) → works_of c (works_resumed ws (ask_next R u x op task)) ≡ works_of c ws
+  works_of_ask R c [] u x op task = refl
+  works_of_ask R c (w ∷ ws) u x op task = refl
+
+module _ {V T : Type 0} where
+  -- two changes of one id that are alike to the stock
+  live_change :
+      (id : ℕ) (f g : Object V T → Object V T) (objects : List (Object V T)) → ((o : Object V T) → live_of (f o) ≡ live_of (g o))
+      → map live_of (change id f objects) ≡ map live_of (change id g objects)
+  live_change id f g [] same = refl
+  live_change id f g (o ∷ objects) same =
+      let more = live_change id f g objects same in
+      elim (cases_eq o.id id) [
+        | inl e ↦ rw (eq-eqb o.id id e, same o, more) refl
+        | inr ne ↦ rw (ne_eqb o.id id ne, more) refl
+      ]
+
+  unfinished_same :
+      (c id : ℕ) (f : Object V T → Object V T) (objects : List (Object V T)) → ((o : Object V T) → works_of c (f o).works ≡ works_of c o.works)
+      → unfinished c (change id f objects) ≡ unfinished c objects
+  unfinished_same c id f [] same = refl
+  unfinished_same c id f (o ∷ objects) same =
+      let more = unfinished_same c id f objects same in
+      elim (o.id == id) as (λ t. works_of c (cond t (f o) o).works + unfinished c (change id f objects) ≡ works_of c o.works + unfinished c objects) [
+        | true ↦ rw (same o, more) refl
+        | false ↦ ap (λ n. works_of c o.works + n) more
+      ]
+
+module _ {V : Type 0} where
+  -- an object that has launches has them with another value
+  changed_has :
+      (w : V) (id : ℕ) (objects : List (Live V)) (o : Live V) → live.object_of objects id ≡ Some o → 1 ≤ o.launches
+      → HasLive (live.change id (λ o. live.with_value w o) objects) id (λ o. 1 ≤ o.launches)
+  changed_has w id [] o e many = absurd cc
+  changed_has w id (x ∷ objects) o e many =
+      elim (cases_eq x.id id) [
+        | inl here ↦
+            let f = rw (eq-eqb x.id id here) at e in
+            let same : x ≡ o = cc in
+            rw (eq-eqb x.id id here, eq-eqb x.id id here) (subst (λ (y : Live V). 1 ≤ y.launches) (sym same) many)
+        | inr ne ↦ rw (ne_eqb x.id id ne, ne_eqb x.id id ne) (changed_has w id objects o (rw (ne_eqb x.id id ne) at e) many)
+      ]
+
 module _ {V O R T : Type 0} where
   -- a launch that is the first of its object, in what is kept and in the state
   pub record FirstAt (s : State V O R T) (h : StateView V O R T) (l : Ticket (Pending T)) : Type 0 where
@@ -91,47 +135,6 @@ module _ {V O R T : Type 0} where
         works = sym kept_works ∙ ap (λ i. works_at i h.launched) own ∙ ap (λ ts. map work_of ts) is;
         has = ap (λ (x : Stock V). live.object_of x.live l.id) k.stock ∙ found_alike s.live l.id o at;
       }
-
-  -- two changes of one id that are alike to the stock
-  live_change :
-      (id : ℕ) (f g : Object V T → Object V T) (objects : List (Object V T)) → ((o : Object V T) → live_of (f o) ≡ live_of (g o))
-      → map live_of (change id f objects) ≡ map live_of (change id g objects)
-  live_change id f g [] same = refl
-  live_change id f g (o ∷ objects) same =
-      let more = live_change id f g objects same in
-      elim (cases_eq o.id id) [
-        | inl e ↦ rw (eq-eqb o.id id e, same o, more) refl
-        | inr ne ↦ rw (ne_eqb o.id id ne, more) refl
-      ]
-
-  unfinished_same :
-      (c id : ℕ) (f : Object V T → Object V T) (objects : List (Object V T)) → ((o : Object V T) → works_of c (f o).works ≡ works_of c o.works)
-      → unfinished c (change id f objects) ≡ unfinished c objects
-  unfinished_same c id f [] same = refl
-  unfinished_same c id f (o ∷ objects) same =
-      let more = unfinished_same c id f objects same in
-      elim (o.id == id) as (λ t. works_of c (cond t (f o) o).works + unfinished c (change id f objects) ≡ works_of c o.works + unfinished c objects) [
-        | true ↦ rw (same o, more) refl
-        | false ↦ ap (λ n. works_of c o.works + n) more
-      ]
-
-  works_of_ask : (c : ℕ) (ws : List (Work T)) (u x : ℕ) (op : O) (task : T) → works_of c (works_resumed ws (Ask {R = R} u x op task)) ≡ works_of c ws
-  works_of_ask c [] u x op task = refl
-  works_of_ask c (w ∷ ws) u x op task = refl
-
-  -- an object that has launches has them with another value
-  changed_has :
-      (w : V) (id : ℕ) (objects : List (Live V)) (o : Live V) → live.object_of objects id ≡ Some o → 1 ≤ o.launches
-      → HasLive (live.change id (λ o. live.with_value w o) objects) id (λ o. 1 ≤ o.launches)
-  changed_has w id [] o e many = absurd cc
-  changed_has w id (x ∷ objects) o e many =
-      elim (cases_eq x.id id) [
-        | inl here ↦
-            let f = rw (eq-eqb x.id id here) at e in
-            let same : x ≡ o = cc in
-            rw (eq-eqb x.id id here, eq-eqb x.id id here) (subst (λ (y : Live V). 1 ≤ y.launches) (sym same) many)
-        | inr ne ↦ rw (ne_eqb x.id id ne, ne_eqb x.id id ne) (changed_has w id objects o (rw (ne_eqb x.id id ne) at e) many)
-      ]
 
   module _ (opening s : State V O R T) (sound : IsSound opening s) (h : StateView V O R T) (k : Keeps s h) (l : Ticket (Pending T)) (first : first_of l.id h.launched ≡ Some l) (w : V) where
     at : FirstAt s h l
@@ -185,12 +188,12 @@ module _ {V O R T : Type 0} where
 
     -- it goes on as the task of an ask
     module _ (u x : ℕ) (op : O) (task : T) where
-      works_then : (o : Object V T) → o.id ≡ l.id → works_at o.id h.launched ≡ o.works → works_at o.id (with_first l.id (record { place = l.task.place; task = task; awaits = AskOf u x }) h.launched) ≡ works_resumed o.works (Ask {R = R} u x op task)
+      works_then : (o : Object V T) → o.id ≡ l.id → works_at o.id h.launched ≡ o.works → works_at o.id (with_first l.id (record { place = l.task.place; task = task; awaits = AskOf u x }) h.launched) ≡ works_resumed o.works (ask_next R u x op task)
       works_then o own e =
           let to : Pending T = record { place = l.task.place; task = task; awaits = AskOf u x } in
           let now = with_own l.id to h.launched l at.rest at.tickets in
           let was : o.works ≡ work_of l ∷ map work_of at.rest = sym e ∙ ap (λ i. works_at i h.launched) own ∙ ap (λ ts. map work_of ts) at.tickets in
-          ap (λ i. works_at i (with_first l.id to h.launched)) own ∙ ap (λ ts. map work_of ts) now ∙ sym (ap (λ ws. works_resumed ws (Ask {R = R} u x op task)) was)
+          ap (λ i. works_at i (with_first l.id to h.launched)) own ∙ ap (λ ts. map work_of ts) now ∙ sym (ap (λ ws. works_resumed ws (ask_next R u x op task)) was)
 
       pub keeps_ask :
           (stock : Stock V) (launched : List (Ticket (Pending T))) (ready : List (List (Completion V O R T))) (entries : ℕ) → AwaitsAny s.setup (AskOf u x)
@@ -198,10 +201,10 @@ module _ {V O R T : Type 0} where
           → Keeps (settled l.id l.number w (Ask u x op task) s) (record h { stock = stock; launched = launched; ready = ready; entries = entries })
       keeps_ask stock launched ready entries awaits is_stock is_launched is_ready =
           let to : Pending T = record { place = l.task.place; task = task; awaits = AskOf u x } in
-          let f : Object V T → Object V T = gone w (Ask {R = R} u x op task) in
+          let f : Object V T → Object V T = gone w (ask_next R u x op task) in
           let objects : map live_of (change l.id f s.live) ≡ map live_of (change l.id (λ o. record o { value = w }) s.live) =
           live_change l.id f (λ o. record o { value = w }) s.live
-          (λ o. ap (λ n. record { id = o.id; value = w; holds = o.holds; launches = n }) (works_as_many {R = R} o.works u x op task)) in
+          (λ o. ap (λ n. record { id = o.id; value = w; holds = o.holds; launches = n }) (works_as_many R o.works u x op task)) in
           let stocks : stock ≡ stock_of (with_live (change l.id f s.live) s) =
           is_stock ∙ ap (λ (y : Stock V). changed l.id y w) k.stock ∙ sym (changes_alike V O R T l.id w s)
           ∙ ap (λ (ls : List (Live V)). record (stock_of s) { live = ls }) (sym objects) in
@@ -218,7 +221,7 @@ module _ {V O R T : Type 0} where
             awaits = all_with (λ t. AwaitsAny s.setup t.task.awaits) l.id to h.launched (λ t own any. awaits) k.awaits;
             ready = is_ready ∙ k.ready;
             most = λ c lt.
-                let same = unfinished_same c l.id f s.live (λ o. works_of_ask {R = R} c o.works u x op task) in
+                let same = unfinished_same c l.id f s.live (λ o. works_of_ask R c o.works u x op task) in
                 let most = k.most c lt in
                 omega (arith, same, most);
           }))
@@ -233,22 +236,22 @@ module _ {V O R T : Type 0} where
 
       lands : settled l.id l.number w (Done r) s
           ≡ with_place l.task.place (record (place_of s l.task.place) { ready = (place_of s l.task.place).ready ++ record { ticket = l.number; reply = r } ∷ [] })
-          (with_live (kept (change l.id (gone w (Done {O = O} r)) s.live)) s)
+          (with_live (kept (change l.id (gone w (done_next O r)) s.live)) s)
       lands =
-          let to : State V O R T = with_live (kept (change l.id (gone w (Done {O = O} r)) s.live)) s in
+          let to : State V O R T = with_live (kept (change l.id (gone w (done_next O r)) s.live)) s in
           ap (λ y. completed (works_in y) l.number (Done r) to) at.found ∙ ap (λ ws. completed ws l.number (Done r) to) at.works
 
-      objects_end : kept (change l.id (gone w (Done {O = O} r)) s.live) ≡ kept (change l.id (λ o. record o { works = works_resumed {O = O} o.works (Done r) }) (change l.id (λ o. record o { value = w }) s.live))
+      objects_end : kept (change l.id (gone w (done_next O r)) s.live) ≡ kept (change l.id (λ o. record o { works = works_resumed {O = O} o.works (Done r) }) (change l.id (λ o. record o { value = w }) s.live))
       objects_end =
-          ap kept (sym (change_twice l.id (λ o. record o { value = w }) (λ o. record o { works = works_resumed {O = O} o.works (Done r) }) (gone w (Done {O = O} r)) s.live (λ o. refl) (λ o. refl)))
+          ap kept (sym (change_twice l.id (λ o. record o { value = w }) (λ o. record o { works = works_resumed {O = O} o.works (Done r) }) (gone w (done_next O r)) s.live (λ o. refl) (λ o. refl)))
 
       -- one launch of the place is unfinished no more, and its completion is ready
       most_end :
           (c : ℕ) → c < length s.places
-          → unfinished c (kept (change l.id (gone w (Done {O = O} r)) s.live))
+          → unfinished c (kept (change l.id (gone w (done_next O r)) s.live))
           + length (slice_index_or (slice_set s.places l.task.place (record (place_of s l.task.place) { ready = (place_of s l.task.place).ready ++ record { ticket = l.number; reply = r } ∷ [] })) c no_place).ready ≤ WINDOW
       most_end c lt =
-          let f : Object V T → Object V T = gone w (Done {O = O} r) in
+          let f : Object V T → Object V T = gone w (done_next O r) in
           let p : Place V O R T = record (place_of s l.task.place) { ready = (place_of s l.task.place).ready ++ record { ticket = l.number; reply = r } ∷ [] } in
           let stay = unfinished_kept c (change l.id f s.live) in
           let less = unfinished_changed (place_count opening.setup) 1 s.next_id c l.id f s.live at.object (sound_ordered opening s sound).rises at.found in
@@ -277,7 +280,7 @@ module _ {V O R T : Type 0} where
           → ready ≡ slice_set h.ready l.task.place (slice_index_or h.ready l.task.place [] ++ record { ticket = l.number; reply = r } ∷ [])
           → Keeps (settled l.id l.number w (Done r) s) (record h { stock = stock; launched = launched; ready = ready; entries = entries })
       keeps_done stock launched ready entries is_stock is_launched is_ready =
-          let f : Object V T → Object V T = gone w (Done {O = O} r) in
+          let f : Object V T → Object V T = gone w (done_next O r) in
           let c = l.task.place in
           let done : Completion V O R T = record { ticket = l.number; reply = r } in
           let p : Place V O R T = record (place_of s c) { ready = (place_of s c).ready ++ done ∷ [] } in

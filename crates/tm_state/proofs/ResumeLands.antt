@@ -44,6 +44,52 @@ module _ {V O R T : Type 0} (kind : Kind V O R T) (laws : KindLaws kind) where
             rw lacks e.0
       ]
 
+-- what a task does next, where its type does not show
+abbrev pub ask_next : {O T : Type 0} (R : Type 0) → ℕ → ℕ → O → T → Next O T R
+ask_next R u x op task = Ask u x op task
+
+abbrev pub done_next : {R T : Type 0} (O : Type 0) → R → Next O T R
+done_next O r = Done r
+
+-- what an ask of an object above awaits
+abbrev pub StopsAbove : {O R T : Type 0} → Setup → Next O T R → Type 0
+StopsAbove setup (Ask u x op task) = AwaitsReply setup (AskOf u x)
+StopsAbove setup (Done r) = Unit {0}
+
+module _ {O R T : Type 0} where
+  works_again :
+      (ws : List (Work T)) (u x : ℕ) (op : O) (task : T) (next : Next O T R) → works_resumed (works_resumed ws (ask_next R u x op task)) next ≡ works_resumed ws next
+  works_again [] u x op task next = refl
+  works_again (w ∷ ws) u x op task (Ask _ _ _ _) = refl
+  works_again (w ∷ ws) u x op task (Done r) = refl
+
+module _ {O T : Type 0} where
+  pub works_as_many : (R : Type 0) (ws : List (Work T)) (u x : ℕ) (op : O) (task : T) → length (works_resumed ws (ask_next R u x op task)) ≡ length ws
+  works_as_many R [] u x op task = refl
+  works_as_many R (w ∷ ws) u x op task = refl
+
+module _ {V T : Type 0} where
+  -- where each object has a hold or a launch, none goes
+  kept_all : (live : List (Object V T)) → AllByRecursion (λ o. 1 ≤ total o) live → kept live ≡ live
+  kept_all [] h = refl
+  kept_all (o ∷ live) h =
+      elim (cases_eq (total o) 0) [
+        | inl e ↦ absurd (let most = h.0 in omega (arith, most, e))
+        | inr ne ↦ rw (ne_eqb (total o) 0 ne) (ap (λ l. o ∷ l) (kept_all live h.1))
+      ]
+
+  -- a change after a change of the same object
+  pub change_twice :
+      (id : ℕ) (f g h : Object V T → Object V T) (live : List (Object V T)) → ((o : Object V T) → (f o).id ≡ o.id) → ((o : Object V T) → g (f o) ≡ h o)
+      → change id g (change id f live) ≡ change id h live
+  change_twice id f g h [] same both = refl
+  change_twice id f g h (o ∷ live) same both =
+      let more = change_twice id f g h live same both in
+      elim (cases_eq o.id id) [
+        | inl e ↦ rw (eq-eqb o.id id e, eq-eqb (f o).id id (same o ∙ e), both o, more) refl
+        | inr ne ↦ rw (ne_eqb o.id id ne, ne_eqb o.id id ne, more) refl
+      ]
+
 module _ {V O R T : Type 0} where
   -- an object whose first launch did `next`, and left the value w
   abbrev pub gone : V → Next O T R → Object V T → Object V T
@@ -61,70 +107,41 @@ module _ {V O R T : Type 0} where
 
   completed_again :
       (ws : List (Work T)) (ticket u x : ℕ) (op : O) (task : T) (next : Next O T R) (s : State V O R T)
-      → completed (works_resumed ws (Ask {R = R} u x op task)) ticket next s ≡ completed ws ticket next s
+      → completed (works_resumed ws (ask_next R u x op task)) ticket next s ≡ completed ws ticket next s
   completed_again [] ticket u x op task next s = refl
   completed_again (w ∷ ws) ticket u x op task (Ask _ _ _ _) s = refl
   completed_again (w ∷ ws) ticket u x op task (Done r) s = refl
 
-  works_again :
-      (ws : List (Work T)) (u x : ℕ) (op : O) (task : T) (next : Next O T R) → works_resumed (works_resumed ws (Ask {R = R} u x op task)) next ≡ works_resumed ws next
-  works_again [] u x op task next = refl
-  works_again (w ∷ ws) u x op task (Ask _ _ _ _) = refl
-  works_again (w ∷ ws) u x op task (Done r) = refl
-
-  pub works_as_many : (ws : List (Work T)) (u x : ℕ) (op : O) (task : T) → length (works_resumed ws (Ask {R = R} u x op task)) ≡ length ws
-  works_as_many [] u x op task = refl
-  works_as_many (w ∷ ws) u x op task = refl
-
-  -- where each object has a hold or a launch, none goes
-  kept_all : (live : List (Object V T)) → AllByRecursion (λ o. 1 ≤ total o) live → kept live ≡ live
-  kept_all [] h = refl
-  kept_all (o ∷ live) h =
-      elim (cases_eq (total o) 0) [
-        | inl e ↦ absurd (let most = h.0 in omega (arith, most, e))
-        | inr ne ↦ rw (ne_eqb (total o) 0 ne) (ap (λ l. o ∷ l) (kept_all live h.1))
-      ]
-
+module _ {V O T : Type 0} where
   still_held :
-      (id u x : ℕ) (op : O) (task : T) (w : V) (live : List (Object V T)) → AllByRecursion (λ o. 1 ≤ total o) live
-      → AllByRecursion (λ o. 1 ≤ total o) (change id (gone w (Ask {R = R} u x op task)) live)
-  still_held id u x op task w [] h = tt
-  still_held id u x op task w (o ∷ live) h =
-      let more = still_held id u x op task w live h.1 in
+      (R : Type 0) (id u x : ℕ) (op : O) (task : T) (w : V) (live : List (Object V T)) → AllByRecursion (λ o. 1 ≤ total o) live
+      → AllByRecursion (λ o. 1 ≤ total o) (change id (gone w (ask_next R u x op task)) live)
+  still_held R id u x op task w [] h = tt
+  still_held R id u x op task w (o ∷ live) h =
+      let more = still_held R id u x op task w live h.1 in
       elim (cases_eq o.id id) [
         | inl e ↦
-            let many = works_as_many o.works u x op task in
+            let many = works_as_many R o.works u x op task in
             let most = h.0 in
             rw (eq-eqb o.id id e) (omega (arith, many, most), more)
         | inr ne ↦ rw (ne_eqb o.id id ne) (h.0, more)
       ]
 
-  -- a change after a change of the same object
-  pub change_twice :
-      (id : ℕ) (f g h : Object V T → Object V T) (live : List (Object V T)) → ((o : Object V T) → (f o).id ≡ o.id) → ((o : Object V T) → g (f o) ≡ h o)
-      → change id g (change id f live) ≡ change id h live
-  change_twice id f g h [] same both = refl
-  change_twice id f g h (o ∷ live) same both =
-      let more = change_twice id f g h live same both in
-      elim (cases_eq o.id id) [
-        | inl e ↦ rw (eq-eqb o.id id e, eq-eqb (f o).id id (same o ∙ e), both o, more) refl
-        | inr ne ↦ rw (ne_eqb o.id id ne, ne_eqb o.id id ne, more) refl
-      ]
-
+module _ {V O R T : Type 0} where
   -- an ask leaves all objects
   pub settled_ask :
       (id ticket u x : ℕ) (op : O) (task : T) (w : V) (s : State V O R T) → AllByRecursion (λ o. 1 ≤ total o) s.live
-      → settled id ticket w (Ask u x op task) s ≡ with_live (change id (gone w (Ask {R = R} u x op task)) s.live) s
+      → settled id ticket w (Ask u x op task) s ≡ with_live (change id (gone w (ask_next R u x op task)) s.live) s
   settled_ask id ticket u x op task w s h =
       completed_ask (works_in (object_of s.live id)) ticket u x op task _
-      ∙ ap (λ live. with_live live s) (kept_all _ (still_held id u x op task w s.live h))
+      ∙ ap (λ live. with_live live s) (kept_all _ (still_held R id u x op task w s.live h))
 
   -- what comes after an ask lands where it would without it
   settled_again :
       (id ticket u x : ℕ) (op : O) (task : T) (v w : V) (next : Next O T R) (s : State V O R T) (o : Object V T) → object_of s.live id ≡ Some o
-      → settled id ticket w next (with_live (change id (gone v (Ask {R = R} u x op task)) s.live) s) ≡ settled id ticket w next s
+      → settled id ticket w next (with_live (change id (gone v (ask_next R u x op task)) s.live) s) ≡ settled id ticket w next s
   settled_again id ticket u x op task v w next s o at =
-      let f = gone v (Ask {R = R} u x op task) in
+      let f = gone v (ask_next R u x op task) in
       let live : change id (gone w next) (change id f s.live) ≡ change id (gone w next) s.live =
       change_twice id f (gone w next) (gone w next) s.live (λ y. refl) (λ y. ap (λ ws. record y { value = w; works = ws }) (works_again y.works u x op task next)) in
       let found : object_of (change id f s.live) id ≡ Some (f o) =
@@ -134,12 +151,7 @@ module _ {V O R T : Type 0} where
       ∙ ap (λ y. completed (works_in y) ticket next to) found ∙ completed_again o.works ticket u x op task next to
       ∙ ap (λ y. completed (works_in y) ticket next to) (sym at)
 
-  -- what an ask of an object above awaits
-  abbrev pub StopsAbove : Setup → Next O T R → Type 0
-  StopsAbove setup (Ask u x op task) = AwaitsReply setup (AskOf u x)
-  StopsAbove setup (Done r) = Unit {0}
-
-  held_total : (opening s : State V O R T) → IsSound opening s → AllByRecursion (λ o. 1 ≤ total o) s.live
+  pub held_total : (opening s : State V O R T) → IsSound opening s → AllByRecursion (λ o. 1 ≤ total o) s.live
   held_total opening s sound = all_weaker (IsSoundObject opening s) _ s.live (λ o h. h.total) sound.objects
 
   module _ (kind : Kind V O R T) (laws : KindLaws kind) (opening : State V O R T) (opens : IsOpening opening) (id ticket : ℕ) where
@@ -171,7 +183,7 @@ module _ {V O R T : Type 0} where
 
     module _ (number : ℕ) (held : List ℕ) (own : number ≡ opening.setup.number) (holds : AreHeld opening.setup held) where
       -- what the entries of a task that goes on do behind a log
-      record Lands (log es : List (Entry V O R T)) (w : V) (next : Next O T R) : Type 0 where
+      pub record Lands (log es : List (Entry V O R T)) (w : V) (next : Next O T R) : Type 0 where
         pub legal : IsLegal kind (state_after kind opening log) es
         pub lands : state_after kind (state_after kind opening log) es ≡ settled id ticket w next (state_after kind opening log)
         pub stops : StopsAbove opening.setup next
@@ -198,7 +210,7 @@ module _ {V O R T : Type 0} where
           → IsLegal kind opening log → object_of (state_after kind opening log).live id ≡ Some o → o.works ≡ wk ∷ ws → wk.ticket ≡ ticket
           → IsAwaited opening.setup wk.awaits event → IsResume kind o.value wk.task event v (Ask u x op task)
           → ((more : List (Entry V O R T)) → IsLegal kind opening more
-          → object_of (state_after kind opening more).live id ≡ Some (gone v (Ask {R = R} u x op task) o) → Lands more es w next)
+          → object_of (state_after kind opening more).live id ≡ Some (gone v (ask_next R u x op task) o) → Lands more es w next)
           → Lands log (Resume id ticket event (Ask u x op task) ∷ es) w next
       lands_more log es o wk ws event v w u x op task next legal at works tick awaits lawful behind =
           let s = state_after kind opening log in
@@ -206,13 +218,13 @@ module _ {V O R T : Type 0} where
           let sound = states_are_sound kind opening log opens legal in
           let aw : IsAwaited s.setup wk.awaits event = subst (λ z. IsAwaited z wk.awaits event) (sym sound.setup) awaits in
           let may = one_may s sound o at wk ws works event v (Ask u x op task) lawful tick aw in
-          let to : State V O R T = with_live (change id (gone v (Ask {R = R} u x op task)) s.live) s in
+          let to : State V O R T = with_live (change id (gone v (ask_next R u x op task)) s.live) s in
           let one : after kind s e ≡ to =
           one_lands s sound o at wk ws works event v (Ask u x op task) lawful ∙ settled_ask id ticket u x op task v s (held_total opening s sound) in
           let joined : state_after kind opening (log ++ e ∷ []) ≡ after kind s e = state-append kind opening log (e ∷ []) in
           let legal_more : IsLegal kind opening (log ++ e ∷ []) = (legal_logs_join kind opening log (e ∷ [])).1 legal (may, tt) in
-          let found : object_of to.live id ≡ Some (gone v (Ask {R = R} u x op task) o) =
-          elim (change_found id id (gone v (Ask {R = R} u x op task)) s.live o (λ y. refl) at) [ inl is ↦ is.1 | inr bad ↦ absurd (bad.0 refl) ] in
+          let found : object_of to.live id ≡ Some (gone v (ask_next R u x op task) o) =
+          elim (change_found id id (gone v (ask_next R u x op task)) s.live o (λ y. refl) at) [ inl is ↦ is.1 | inr bad ↦ absurd (bad.0 refl) ] in
           let rest = behind (log ++ e ∷ []) legal_more (ap (λ (z : State V O R T). object_of z.live id) (joined ∙ one) ∙ found) in
           record {
             legal = (may, subst (λ z. IsLegal kind z es) joined rest.legal);
@@ -246,11 +258,11 @@ module _ {V O R T : Type 0} where
           let law : IsResume kind o.value wk.task event between (Ask u x op more) =
           subst (λ y. IsResume kind y wk.task event between (Ask u x op more)) val (subst (λ y. IsResume kind v y event between (Ask u x op more)) tk lawful) in
           let then : Work T = record wk { task = more; awaits = AskOf u x } in
-          let on : (gone between (Ask {R = R} u x op more) o).works ≡ then ∷ ws = ap (λ l. works_resumed l (Ask {R = R} u x op more)) works in
+          let on : (gone between (ask_next R u x op more) o).works ≡ then ∷ ws = ap (λ l. works_resumed l (ask_next R u x op more)) works in
           subst (λ l. Lands log l w next) (named i t e event (Ask u x op more) es ii ti ei)
           (elim goes [
             | inl last ↦
-                let above : StopsAbove opening.setup (Ask {O = O} {R = R} u x op more) =
+                let above : StopsAbove opening.setup (ask_next R u x op more) =
                 let hold = holds u in let lt = last.3.0 in let in_range = last.3.1 in (omega (arith, lt, own), omega (arith, hold, in_range)) in
                 let one = lands_one log o wk ws event between (Ask u x op more) legal at works tick awaits law above in
                 subst (λ l. Lands log (Resume id ticket event (Ask u x op more) ∷ l) w next) (sym last.0)
@@ -260,12 +272,12 @@ module _ {V O R T : Type 0} where
                 lands_more log es o wk ws event between w u x op more next legal at works tick awaits law
                 (λ longer legal_more found.
                 let le = low.0 in
-                runs_land es longer between more NotAbove w next (gone between (Ask {R = R} u x op more) o) then ws legal_more found on refl refl tick (omega (arith, le, own)) low.1)
+                runs_land es longer between more NotAbove w next (gone between (ask_next R u x op more) o) then ws legal_more found on refl refl tick (omega (arith, le, own)) low.1)
             | inr (inr far) ↦
                 lands_more log es o wk ws event between w u x op more next legal at works tick awaits law
                 (λ longer legal_more found.
                 let lt = far.0 in
                 let out = far.1 in
                 let hold = holds u in
-                runs_land es longer between more NoObject w next (gone between (Ask {R = R} u x op more) o) then ws legal_more found on refl refl tick (omega (arith, lt, own), omega (arith, out, hold)) far.2)
+                runs_land es longer between more NoObject w next (gone between (ask_next R u x op more) o) then ws legal_more found on refl refl tick (omega (arith, lt, own), omega (arith, out, hold)) far.2)
           ])

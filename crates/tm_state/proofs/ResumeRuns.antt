@@ -1,8 +1,10 @@
 -- A launch goes on behind a log: what it may be told, and what the longer log leaves.
 use Rattle.std.proofs.Common.{◌≡◌, ℕ, ◌+◌, ◌-◌, ◌^◌, ◌<◌, ◌≤◌, min, List, [], ◌∷◌, ◌++◌, length, slice_index_or, inl, inr, refl, sym, ◌∙◌, ap, subst, arith, append_assoc, length-append}
-use Rattle.std.specs.Prelude.{map, IsSome}
+use Rattle.std.specs.Prelude.{◌⊎◌, map, IsSome, IfNone}
 use Rattle.std.specs.List.{AllByRecursion}
+use Rattle.std.specs.declared.option.Option.{Option}
 use Rattle.std.specs.declared.option.Option.TheVariants.{None, Some}
+use Rattle.std.proofs.lemmas.Bool.{false≢true}
 use Rattle.std.specs.Option.{IsSomeAnd}
 use Rattle.tm_seq.specs.Kind.{Kind, KindLaws}
 use Rattle.tm_seq.specs.declared.kind.Event.{Event}
@@ -12,36 +14,46 @@ use Rattle.tm_seq.specs.declared.kind.Next.TheVariants.{Ask, Done}
 use Rattle.tm_batch.specs.declared.limits.TheConstants.{WINDOW}
 use Rattle.tm_batch.specs.declared.message.Completion.{Completion}
 use Rattle.tm_latch.specs.declared.ticket.Ticket.{Ticket}
-use Rattle.tm_latch.specs.Tickets.{first_of}
+use Rattle.tm_latch.specs.Tickets.{first_of, tickets_of}
+use Rattle.tm_latch.proofs.Listed.{first_head}
 use Rattle.tm_model.specs.declared.entry.Entry.{Entry}
 use Rattle.tm_model.specs.declared.entry.Entry.TheVariants.{By, Resume, Sent}
-use Rattle.tm_model.specs.State.{Awaits, Start, AskOf, Setup, State}
+use Rattle.tm_model.specs.State.{Awaits, Start, AskOf, Work, Setup, State}
 use Rattle.tm_model.specs.Serve.{state_after}
-use Rattle.tm_model.specs.Legal.{IsAwaited, IsLegal}
+use Rattle.tm_model.specs.Legal.{HasFirst, IsAwaited, IsLegal}
 use Rattle.tm_model.specs.Laws.{IsSound}
 use Rattle.tm_objects.specs.Live.{HasLive}
 use Rattle.tm_objects.specs.Live as live
 use Rattle.tm_objects.specs.Stock.{Stock, changed}
 use Rattle.tm_objects.specs.Standing.{live_of}
+use Rattle.tm_core.proofs.CallerLemmas.{all_weaker}
 use Rattle.tm_core.proofs.Joins.{legal_logs_join, state-append}
 use Rattle.tm_core.proofs.Sound.{states_are_sound}
 use Rattle.tm_state.specs.declared.resumed.Resumed.{Resumed}
-use Rattle.tm_state.specs.Launches.{Pending, AwaitsAny, work_of}
+use Rattle.tm_state.specs.Launches.{Pending, AwaitsAny, AwaitsReply, Begins, to_begin, work_of}
 use Rattle.tm_state.specs.StateView.{StateView}
 use Rattle.tm_state.specs.Represents.{Keeps, Represents, requests_in}
-use Rattle.tm_state.specs.Resuming.{Continues, Settles, Finishes, IsResumable, KeepsOn}
+use Rattle.tm_state.specs.Resuming.{Continues, Settles, Finishes, HasGoneOn, IsResumable, KeepsOn, AllAwait}
 use Rattle.tm_state.proofs.BatchRuns.{requests_in-append}
+use Rattle.tm_state.proofs.LaunchLists.{on_fewer, end_fewer}
 use Rattle.tm_state.proofs.ResumeKeeps.{FirstAt, first_at, all_first, launch_counts, ready_place, ready_room, keeps_ask, keeps_done}
 use Rattle.tm_state.proofs.ResumeLands.{StopsAbove, settled, runs_land}
 
 -- who has not begun may be told to begin, and who has, the reply
-pub may_begin : {R : Type 0} (awaits : Awaits) → awaits ≡ Start → (setup : Setup) → AwaitsAny setup awaits → IsAwaited {R = R} setup awaits Begin
-may_begin Start e setup any = tt
-may_begin (AskOf u i) e setup any = absurd cc
+pub may_begin : (R : Type 0) (awaits : Awaits) → awaits ≡ Start → (setup : Setup) → AwaitsAny setup awaits → IsAwaited {R = R} setup awaits Begin
+may_begin R Start e setup any = tt
+may_begin R (AskOf u i) e setup any = absurd cc
 
 pub may_reply : {R : Type 0} (awaits : Awaits) (r : R) → (awaits ≡ Start → ⊥) → (setup : Setup) → AwaitsAny setup awaits → IsAwaited setup awaits (Reply r)
 may_reply Start r begun setup any = absurd (begun refl)
 may_reply (AskOf u i) r begun setup any = any
+
+module _ {O R T : Type 0} where
+  stops_any :
+      (setup other : Setup) → setup ≡ other → (next : Next O T R) → StopsAbove setup next → (u x : ℕ) (op : O) (task : T) → next ≡ Ask u x op task
+      → AwaitsAny other (AskOf u x)
+  stops_any setup other same next stops u x op task is =
+      subst (λ z. AwaitsAny z (AskOf u x)) same (subst (λ n. StopsAbove setup n) is stops)
 
 module _ {V O R T : Type 0} where
   -- the entries of a task are no requests
@@ -58,12 +70,6 @@ module _ {V O R T : Type 0} where
         | inr (inl low) ↦ no_requests kind number held id ticket es _ _ _ w next low.1
         | inr (inr far) ↦ no_requests kind number held id ticket es _ _ _ w next far.2
       ]
-
-  stops_any :
-      (setup other : Setup) → setup ≡ other → (next : Next O T R) → StopsAbove setup next → (u x : ℕ) (op : O) (task : T) → next ≡ Ask u x op task
-      → AwaitsAny other (AskOf u x)
-  stops_any setup other same next stops u x op task is =
-      subst (λ z. AwaitsAny z (AskOf u x)) same (subst (λ n. StopsAbove setup n) is stops)
 
   module _ (kind : Kind V O R T) (laws : KindLaws kind) (held : List ℕ) (old : StateView V O R T) (l : Ticket (Pending T)) (first : first_of l.id old.launched ≡ Some l) where
     -- what a launch needs to go on is there
@@ -129,3 +135,96 @@ module _ {V O R T : Type 0} where
             run = omega (arith, run, none, both);
             entries = omega (arith, count, had, long);
           })
+
+waits : (setup : Setup) (awaits : Awaits) → (awaits ≡ Start → ⊥) → AwaitsAny setup awaits → AwaitsReply setup awaits
+waits setup Start begun any = begun refl
+waits setup (AskOf u i) begun any = any
+
+-- what is answered where something is
+pub if_none : {X : Type 0} (r : Option X) (P : Type 0) → P → IfNone r P
+if_none None P p = p
+if_none (Some x) P p = tt
+
+module _ {V O R T : Type 0} (kind : Kind V O R T) where
+  await_by :
+      (setup : Setup) (launched own : List (Ticket (Pending T))) (ws : List (Work T)) (id : ℕ) → Begins launched [] → tickets_of id launched ≡ own
+      → map work_of own ≡ ws → AllByRecursion (λ t. AwaitsAny setup t.task.awaits) launched → (ws ≡ []) ⊎ HasFirst ws (λ w. AwaitsReply setup w.awaits)
+  await_by setup launched [] ws id none is works any = inl (sym works)
+  await_by setup launched (t ∷ own) ws id none is works any =
+      let first = first_head id launched t own is in
+      let awaits = all_first (λ x. AwaitsAny setup x.task.awaits) id launched t first any in
+      inr (subst (λ l. HasFirst l (λ w. AwaitsReply setup w.awaits)) works (waits setup t.task.awaits (λ start. false≢true (none id t first start)) awaits))
+
+  -- where none may begin, each first launch awaits a reply
+  pub all_await : (h : StateView V O R T) (launched begins : List (Ticket (Pending T))) → launched ≡ h.launched → Begins launched begins → begins ≡ [] → AllAwait kind h
+  all_await h launched begins same all none opening log rep =
+      let s = state_after kind opening log in
+      let sound = states_are_sound kind opening log rep.opens rep.is_legal in
+      let no_begin : Begins h.launched [] = subst (λ l. Begins l []) same (subst (λ b. Begins launched b) none all) in
+      subst (λ z. AllByRecursion (λ o. (o.works ≡ []) ⊎ HasFirst o.works (λ w. AwaitsReply z w.awaits)) s.live) sound.setup
+      (all_weaker _ _ s.live (λ o e. await_by s.setup h.launched (tickets_of o.id h.launched) o.works o.id no_begin refl e rep.keeps.awaits) rep.keeps.works)
+
+module _ {V O R T : Type 0} (kind : Kind V O R T) (laws : KindLaws kind) (held : List ℕ) (was old : StateView V O R T) (same : was ≡ old) (l : Ticket (Pending T))
+    (first : first_of l.id was.launched ≡ Some l) (i n p : ℕ) (ii : i ≡ l.id) (ni : n ≡ l.number) (pi : p ≡ l.task.place) (since : List (Entry V O R T))
+    (resumable : IsResumable kind held since old) where
+  may : IsResumable kind held since was
+  may = subst (λ h. IsResumable kind held since h) (sym same) resumable
+
+  pub object_marked : IsSome (live.object_of was.stock.live i)
+  object_marked = subst (λ x. IsSome (live.object_of was.stock.live x)) (sym ii) (object_there kind laws held was l first since may)
+
+  pub counts_marked : (w : V) → HasLive (changed i was.stock w).live i (λ o. 1 ≤ o.launches)
+  counts_marked w = subst (λ x. HasLive (changed x was.stock w).live x (λ o. 1 ≤ o.launches)) (sym ii) (counts_there kind laws held was l first since w may)
+
+  pub place_marked : V → p < length was.ready
+  place_marked w = subst (λ x. x < length was.ready) (sym pi) (place_there kind laws held was l first since w may)
+
+  pub room_marked : V → length (slice_index_or was.ready p []) < WINDOW
+  room_marked w = subst (λ x. length (slice_index_or was.ready x []) < WINDOW) (sym pi) (room_there kind laws held was l first since w may)
+
+  module _ (event : Event R) (es : List (Entry V O R T)) (v w : V) (next : Next O T R) (result : Resumed V O R T) (mid launched : List (Ticket (Pending T)))
+      (ready : List (List (Completion V O R T))) (stock : Stock V) (entries : ℕ) (value : HasLive was.stock.live i (λ o. v ≡ o.value))
+      (goes : Continues kind was.number held l.id l.number v l.task.task event es w next) (middle : mid ≡ was.launched)
+      (settles : Settles i n p next result mid launched was.ready ready) where
+    value_at : HasLive was.stock.live l.id (λ o. v ≡ o.value)
+    value_at = subst (λ x. HasLive was.stock.live x (λ o. v ≡ o.value)) ii value
+
+    settles_at : Settles l.id l.number l.task.place next result was.launched launched was.ready ready
+    settles_at =
+        subst (λ m. Settles l.id l.number l.task.place next result m launched was.ready ready) middle
+        (subst (λ x. Settles x l.number l.task.place next result mid launched was.ready ready) ii
+        (subst (λ x. Settles i x l.task.place next result mid launched was.ready ready) ni
+        (subst (λ x. Settles i n x next result mid launched was.ready ready) pi settles)))
+
+    -- what it did, of what was had
+    pub gone_marked : (new : StateView V O R T) → launched ≡ new.launched → ready ≡ new.ready → HasGoneOn kind held l event es result old new
+    gone_marked new is_launched is_ready =
+        subst (λ h. HasGoneOn kind held l event es result h new) same
+        (
+          v,
+          w,
+          next,
+          value_at,
+          goes,
+          subst (λ x. Settles l.id l.number l.task.place next result was.launched x was.ready new.ready) is_launched
+              (subst (λ x. Settles l.id l.number l.task.place next result was.launched launched was.ready x) is_ready settles_at),
+        )
+
+    pub keeps_marked :
+        (more : List (Entry V O R T)) → ((setup : Setup) → AwaitsAny setup l.task.awaits → IsAwaited setup l.task.awaits event) → more ≡ since ++ es
+        → Finishes i next (changed i was.stock w) stock → entries ≡ min (was.entries + length es) (2 ^ 64 - 1)
+        → KeepsOn kind held since more old (record was { stock = stock; launched = launched; ready = ready; entries = entries })
+    keeps_marked more told made finishes count =
+        subst (λ h. KeepsOn kind held since more h (record was { stock = stock; launched = launched; ready = ready; entries = entries })) same
+        (keeps_on kind laws held was l first since more es event v w next stock launched ready entries result told value_at goes made settles_at
+        (subst (λ x. Finishes x next (changed x was.stock w) stock) ii finishes) count)
+
+    fewer_by : (n : Next O T R) → Settles l.id l.number l.task.place n result was.launched launched was.ready ready → l.task.awaits ≡ Start → to_begin launched + 1 ≡ to_begin was.launched
+    fewer_by (Ask u x op task) s start =
+        ap (λ ls. to_begin ls + 1) s.1 ∙ on_fewer l.id (record { place = l.task.place; task = task; awaits = AskOf u x }) was.launched l first start refl
+    fewer_by (Done r) s start = ap (λ ls. to_begin ls + 1) s.1 ∙ end_fewer l.id was.launched l first start
+
+    -- one less is to begin
+    pub fewer_marked : l.task.awaits ≡ Start → to_begin launched + 1 ≡ to_begin old.launched
+    fewer_marked start =
+        subst (λ (h : StateView V O R T). to_begin launched + 1 ≡ to_begin h.launched) same (fewer_by next settles_at start)

@@ -1,6 +1,6 @@
 //! A launch that has not ended.
 ghost use Rattle.std.specs.Prelude.{◌≡◌};
-ghost use Rattle.tm_model.specs.State.{AskOf};
+ghost use Rattle.tm_model.specs.State.{Start, AskOf};
 
 use std::marker::Model;
 use tm_batch::Name;
@@ -70,6 +70,27 @@ impl<S: Entrusted> Model for Launch<S> {
     ghost coded = { ticket_code (pending_code S.Task.code) };
 
     ghost view = { λ a. record { id = a.id; number = a.ticket; task = a.waiting } };
+}
+
+/// A launch that has not begun.
+pub(crate) fn to_begin<S: Entrusted>(
+    name: Name,
+    ticket: u64,
+    place: u32,
+    task: S::Task,
+) -> Launch<S>
+    ensures { result ≡ record { id = name.id; number = ticket; task = record { place = place; task = task; awaits = Start } } }
+{
+    Launch {
+        id: name.id,
+        ticket,
+        waiting: Waiting {
+            kept_at: name.place,
+            place,
+            until: Until::Begin,
+            task,
+        },
+    }
 }
 
 /// What of a launch stays as it is while it goes on.

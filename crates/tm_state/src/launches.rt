@@ -81,6 +81,15 @@ impl<S: Entrusted> Launches<S> {
         self.begins.pop_front()
     }
 
+    /// A launch that has begun is none of those that may begin. Nothing runs.
+    pub(crate) fn known(&self, launch: &Launch<S>)
+        requires first { first_of launch.now.id self.now.launched ≡ Some launch.now }
+        requires begun { launch.now.task.awaits ≡ Start → ⊥ }
+        ensures { first_of launch.now.id self.now.begins ≡ None }
+    {
+        let (_begins, _launch) = (&self.begins, launch);
+    }
+
     /// A launch that was handed out goes on as it is now. Nothing runs.
     pub(crate) fn goes_on(&mut self, launch: &Launch<S>)
         requires first { IsSome (first_of launch.now.id self.old.launched) }

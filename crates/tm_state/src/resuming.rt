@@ -72,6 +72,7 @@ impl<S: Entrusted> TrusteeState<S> {
         ensures goes { (es : List (Entry S S.Op S.Reply S.Task)) × Makes es made.old made.new × HasGoneOn S.kind held.now launch (Reply reply) es result self.old self.new }
         ensures keeps { KeepsOn S.kind held.now made.old.entries.items made.new.entries.items self.old self.new }
     {
+        self.launches.known(&launch);
         let mark = launch.mark();
         let next = go_on(
             self.objects.value_mut(mark.name),

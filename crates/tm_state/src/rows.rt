@@ -4,7 +4,7 @@ ghost use Rattle.tm_batch.specs.declared.message.Request.TheVariants.{Entrust, A
 ghost use Rattle.tm_state.specs.Asking.{IsServable, HasServed};
 ghost use Rattle.tm_state.specs.Launches.{Grows};
 
-use crate::launch::{Launch, Until, Waiting};
+use crate::launch::to_begin;
 use crate::state::TrusteeState;
 use tm_batch::{Answer, Name, Request};
 use tm_objects::More;
@@ -65,16 +65,8 @@ impl<S: Entrusted> TrusteeState<S> {
         }
         self.tickets += 1;
         self.objects.begin(name);
-        self.launches.add(Launch {
-            id: name.id,
-            ticket: self.tickets,
-            waiting: Waiting {
-                kept_at: name.place,
-                place,
-                until: Until::Begin,
-                task,
-            },
-        });
+        self.launches
+            .add(to_begin(name, self.tickets, place, task));
         Answer::Launched(self.tickets)
     }
 
