@@ -150,10 +150,10 @@ module _ {O R T : Type 0} where
       × ((a : NestedAsk O) × (rest : List (NestedAsk O)) × (pending u ≡ a ∷ rest) × (a.by ≡ id)))
 
 module _ {R T : Type 0} where
-  begin_tells : (u : ℕ) (ws : List (Work T)) (ticket : ℕ) (event : Event R) → event ≡ Begin → told_by u ws ticket event ≡ []
+  pub begin_tells : (u : ℕ) (ws : List (Work T)) (ticket : ℕ) (event : Event R) → event ≡ Begin → told_by u ws ticket event ≡ []
   begin_tells u ws ticket event e = ap (told_by u ws ticket) e
 
-  reply_tells :
+  pub reply_tells :
       (u v i : ℕ) (w : Work T) (ws : List (Work T)) (ticket : ℕ) (event : Event R) (r : R) → event ≡ Reply r → w.awaits ≡ AskOf v i
       → told_by u (w ∷ ws) ticket event ≡ cond (v == u) (record { ticket = ticket; reply = r } ∷ []) []
   reply_tells u v i w ws ticket event r e awaits =

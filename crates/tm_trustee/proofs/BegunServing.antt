@@ -27,13 +27,14 @@ use Rattle.tm_trustee.specs.NestedAsks.{asked_by, works_at, AppliesAmong}
 use Rattle.tm_trustee.specs.Above.{IsAt}
 use Rattle.tm_trustee.specs.AboveAt.{IsAbove}
 use Rattle.tm_trustee.specs.Awaiting.{AreAwaited}
-use Rattle.tm_trustee.specs.Lanes.{IsAsker, IsLane, IsNewLane, AreNewLanes}
+use Rattle.tm_trustee.specs.Lanes.{IsAsker, IsLane, IsNewLane, AreNewLanes, AreCounted}
 use Rattle.tm_trustee.specs.Serving.{AreNested, IsServing}
 use Rattle.tm_trustee.specs.Begun.{MayBegin, IsNewHome, IsNewSeat}
 use Rattle.tm_trustee.specs.declared.lane.Lane.{Lane}
 use Rattle.tm_trustee.specs.declared.stage.Stage.TheVariants.{Before}
 use Rattle.tm_trustee.specs.declared.trustee.Trustee.{Trustee}
 use Rattle.tm_trustee.proofs.Elements.{mapped_from}
+use Rattle.tm_trustee.proofs.HeldCounts.{held_are}
 
 map_twice : {X Y Z : Type 0} (f : Y → Z) (g : X → Y) (xs : List X) → map f (map g xs) ≡ map (λ x. f (g x)) xs
 map_twice f g [] = refl
@@ -112,8 +113,11 @@ module _ {V O R T Table Client Owner : Type 0} (theory : Theory V O R T Table Cl
       → MayBegin opening t.number config whole first t.nested.items (length t.above.items) → HasOpened kind t.number config first t.state
       → IsNewHome (theory.trustee_view t.side)
       → All (λ seat. IsNewSeat (config.clients + t.number) (theory.client_view seat)) t.above.items
-      → AreNewLanes (t.number + 1) config.objects t.nested.items (length t.above.items) t.lanes.items → IsServing theory kind opening t
-  begins_serving kind opening config whole first t clients none may opened new all lanes =
+      → (count : ℕ) → count ≡ length t.above.items → AreNewLanes (t.number + 1) config.objects t.nested.items count t.lanes.items
+      → AreCounted t.number t.lanes.items (t.number + 1 + length t.lanes.items) t.held.items → IsServing theory kind opening t
+  begins_serving kind opening config whole first t clients none may opened new all count many made counted =
+      let lanes : AreNewLanes (t.number + 1) config.objects t.nested.items (length t.above.items) t.lanes.items =
+      subst (λ n. AreNewLanes (t.number + 1) config.objects t.nested.items n t.lanes.items) many made in
       let log = (theory.trustee_view t.side).log in
       let empty : log ++ t.since.items ≡ [] = ap (λ l. log ++ l) none ∙ append-nil log ∙ new.log in
       let represents : Represents kind opening (log ++ t.since.items) t.state =
@@ -130,6 +134,7 @@ module _ {V O R T Table Client Owner : Type 0} (theory : Theory V O R T Table Cl
             subst (λ m. IsAbove (m + t.number) t.lanes.items (map theory.client_view t.above.items)) (sym clients)
             (all_before (config.clients + t.number) (t.number + 1) config.objects t.nested.items t.above.items t.lanes.items all lanes);
         nested = may.nested;
+        held = held_are opening t.number config whole first t.nested.items (length t.above.items) may config.objects t.lanes.items lanes t.held.items counted;
         awaited = subst (λ l. AreAwaited kind opening l) (sym empty) (none_awaited kind opening represents.opens);
         lanes = λ i up lane eu el.
             let (seat, es, is_up) = mapped_from theory.client_view t.above.items i up eu in

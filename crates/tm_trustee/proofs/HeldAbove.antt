@@ -23,9 +23,9 @@ among_any id (i ∷ ids) (inr h) = or_true (i == id) (list_any (λ j. j == id) i
 
 -- what a trustee holds at a greater one is what the list of the build gives its place there
 pub above_at :
-    {V O R T : Type 0} (number : ℕ) (config : Config) (whole : List (First V)) (u : ℕ) → number < u → u < config.trustees
+    {V : Type 0} (O R T : Type 0) (number : ℕ) (config : Config) (whole : List (First V)) (u : ℕ) → number < u → u < config.trustees
     → ids_above (opening_of {V = V} {O = O} {R = R} {T = T} number config whole).setup u ≡ ids_at u (config.clients + number) whole
-above_at number config whole u lt few =
+above_at O R T number config whole u lt few =
     get_or-map-range_with_len (λ v. cond (nat_lt number v) (ids_at v (config.clients + number) whole) []) 0 config.trustees u u [] few (omega arith)
     ∙ ap (λ b. cond b (ids_at u (config.clients + number) whole) []) (lt-ltb number u lt)
 
@@ -35,7 +35,7 @@ pub holds_above :
     → IsAmong id (ids_above opening.setup u) → 1 ≤ holds_at home (config.clients + number) id
 holds_above {V} {O} {R} {T} kind opening home number config whole u id is at lt few among =
     let ids : ids_above opening.setup u ≡ ids_at u (config.clients + number) whole =
-    ap (λ (s : State V O R T). ids_above s.setup u) is ∙ above_at {V = V} {O = O} {R = R} {T = T} number config whole u lt few in
+    ap (λ (s : State V O R T). ids_above s.setup u) is ∙ above_at O R T number config whole u lt few in
     let within : config.clients + number < place_count home.setup = subst (λ (s : State V O R T). config.clients + number < place_count s.setup) (sym at) (omega (arith, lt)) in
     let gives = openings_give kind home u config whole (config.clients + number) at within in
     let any = among_any id (ids_at u (config.clients + number) whole) (subst (IsAmong id) ids among) in

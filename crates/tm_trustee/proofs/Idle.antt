@@ -31,10 +31,10 @@ use Rattle.tm_trustee.specs.NestedAsks.{NestedAsk, pending_of, works_at}
 use Rattle.tm_trustee.specs.Awaiting.{IsAskAt, AreAwaited, AreIdle}
 use Rattle.tm_trustee.proofs.Resuming.{resumes_run, same_ran}
 
-module _ {V T : Type 0} where
-  own_work : (w : Work T) (ws : List (Work T)) → 1 ≤ works_of w.place (w ∷ ws)
-  own_work w ws = rw (eq-eqb w.place w.place refl) (omega arith)
+own_work : {T : Type 0} (w : Work T) (ws : List (Work T)) → 1 ≤ works_of w.place (w ∷ ws)
+own_work w ws = rw (eq-eqb w.place w.place refl) (omega arith)
 
+module _ {V T : Type 0} where
   -- an object with an unfinished launch has one of some place
   works_counted : (live : List (Object V T)) (id : ℕ) (o : Object V T) (w : Work T) (ws : List (Work T)) → object_of live id ≡ Some o → o.works ≡ w ∷ ws → 1 ≤ unfinished w.place live
   works_counted [] id o w ws at works = absurd cc

@@ -30,3 +30,8 @@ pub mod TurningIdle
 pub mod Tying
 pub mod LaneNews
 pub mod Bridging
+pub mod LaneSteps
+pub mod GoingOn
+pub mod HeldCounts
+pub mod GoingLoops
+pub mod TurningResumes

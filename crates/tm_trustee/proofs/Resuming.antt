@@ -43,7 +43,7 @@ module _ {V O R T : Type 0} where
   pub same_ran : (c : ℕ) (log es : List (Entry V O R T)) → AreResumes es → ran c (log ++ es) ≡ ran c log
   same_ran c log es only = ran-append mark_of c log es ∙ ap (λ l. ran c log ++ l) (resumes_run c es only) ∙ append-nil (ran c log)
 
-  both_resume : (es fs : List (Entry V O R T)) → AreResumes es → AreResumes fs → AreResumes (es ++ fs)
+  pub both_resume : (es fs : List (Entry V O R T)) → AreResumes es → AreResumes fs → AreResumes (es ++ fs)
   both_resume [] fs first then = then
   both_resume (Resume id ticket event next ∷ es) fs first then = both_resume es fs first then
   both_resume (By d k q a ∷ es) fs first then = absurd first

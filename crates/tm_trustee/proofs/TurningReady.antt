@@ -79,6 +79,7 @@ module _ {V O R T Table Client Owner : Type 0} (theory : Theory V O R T Table Cl
       sides = s.sides;
       above = s.above;
       nested = s.nested;
+      held = s.held;
       awaited = s.awaited;
       lanes = s.lanes;
       idle = s.idle;
@@ -94,6 +95,7 @@ module _ {V O R T Table Client Owner : Type 0} (theory : Theory V O R T Table Cl
       sides = s.sides;
       above = s.above;
       nested = s.nested;
+      held = s.held;
       awaited = s.awaited;
       lanes = s.lanes;
       told = told;
@@ -143,6 +145,7 @@ module _ {V O R T Table Client Owner : Type 0} (theory : Theory V O R T Table Cl
           sides = omega (arith, sides, seats, seats_before, many);
           above = is_above;
           nested = home.1.nested;
+          held = home.1.held;
           awaited = home.1.awaited;
           lanes = are;
           idle = home.1.idle;
@@ -180,6 +183,7 @@ module _ {V O R T Table Client Owner : Type 0} (theory : Theory V O R T Table Cl
           sides = home.1.sides;
           above = home.1.above;
           nested = home.1.nested;
+          held = home.1.held;
           awaited = subst (λ l. AreAwaited kind opening l) (sym grows) (quiet_awaited kind opening opened (done_by theory t) es legal none home.1.awaited);
           lanes = λ i up lane eu el.
               subst (λ l. IsLane kind opening l (t.number + 1 + i) up lane) (sym grows)
@@ -221,6 +225,7 @@ module _ {V O R T Table Client Owner : Type 0} (theory : Theory V O R T Table Cl
             sides = home.1.sides;
             above = home.1.above;
             nested = home.1.nested;
+          held = home.1.held;
             awaited = home.1.awaited;
             lanes = home.1.lanes;
             told = home.1.told;

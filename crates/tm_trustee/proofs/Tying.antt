@@ -1,5 +1,5 @@
 -- A trustee that is ready is tied to its sides above, and its launched work is latched.
-use Rattle.std.proofs.Common.{◌≡◌, ℕ, ◌+◌, true, false, List, [], ◌∷◌, ◌++◌, map, inl, inr, refl, sym, ◌∙◌, ap, subst, append_assoc, append-nil, arith}
+use Rattle.std.proofs.Common.{◌≡◌, ℕ, ◌⊎◌, ◌+◌, true, false, List, [], ◌∷◌, ◌++◌, map, inl, inr, refl, sym, ◌∙◌, ap, subst, append_assoc, append-nil, arith}
 use Rattle.std.specs.Prelude.{slice_get}
 use Rattle.std.specs.declared.option.Option.{Option}
 use Rattle.std.specs.declared.option.Option.TheVariants.{None, Some}
@@ -26,7 +26,7 @@ use Rattle.tm_trustee.specs.NestedAsks.{ToldReply, target, asks_of, replies_of, 
 use Rattle.tm_trustee.specs.Lanes.{IsLane}
 use Rattle.tm_trustee.specs.Laws.{AreTied, AreLatched}
 use Rattle.tm_trustee.specs.declared.lane.Lane.{Lane}
-use Rattle.tm_trustee.proofs.Elements.{element_at, there_too, mapped_from}
+use Rattle.tm_trustee.proofs.Elements.{element_at, there_as, mapped_from}
 use Rattle.tm_trustee.proofs.LaneKeeps.{ran_front, seen_fits, seen_replies}
 use Rattle.tm_trustee.proofs.Replied.{asked_by-append, replied_all, behind_front}
 use Rattle.tm_trustee.proofs.TurningReady.{at_home, own_table}
@@ -87,7 +87,7 @@ module _ {V O R T Table Client Owner : Type 0} (theory : Theory V O R T Table Cl
       let within = slice_get_within t.above.items i seat es in
       let sides = ready.above.as_many in
       let (table, et) = element_at tables (t.number + 1 + i) (omega (arith, within, sides)) in
-      let (lane, el) = there_too _ t.lanes.items i up serving.above.as_many eu in
+      let (lane, el) = there_as (map theory.client_view t.above.items) t.lanes.items i up serving.above.as_many eu in
       is_tied kind (theory.opening own) (theory.opening table) _ (t.number + 1 + i) up lane (serving.lanes i up lane eu el)
       (subst (λ v. IsGoodClient kind (theory.opening table) v) (sym is_up) (laws.client_is_good table seat (ready.above.mine i table seat et es)))
       (serving.above.asked i up eu)

@@ -1,7 +1,8 @@
 -- What a trustee keeps of a greater one.
-use Rattle.std.specs.Prelude.{◌≡◌, ◌≢◌, ℕ, ◌+◌, ◌≤◌, ◌⊎◌, ◌==◌, false, List, [], ◌∷◌, ◌++◌, length, map, filter, take, drop, slice_get}
+use Rattle.std.specs.Prelude.{◌≡◌, ◌≢◌, ℕ, ◌+◌, ◌-◌, ◌≤◌, ◌⊎◌, ◌==◌, nat_lt, cond, false, List, [], ◌∷◌, ◌++◌, length, map, filter, take, drop, slice_get}
 use Rattle.std.specs.List.{AllByRecursion, AllZip}
-use Rattle.std.specs.declared.option.Option.TheVariants.{Some}
+use Rattle.std.specs.declared.option.Option.{Option}
+use Rattle.std.specs.declared.option.Option.TheVariants.{None, Some}
 use Rattle.circular_buffer.specs.Buffer.{buffer}
 use Rattle.tm_seq.specs.Kind.{Kind}
 use Rattle.tm_batch.specs.declared.message.Name.{Name}
@@ -89,3 +90,17 @@ module _ {V O R T : Type 0} where
   pub record AreNewLanes (u room : ℕ) (nested : List (ℕ × Name)) (count : ℕ) (lanes : List (Lane V O R T)) : Type 0 where
     pub as_many : length lanes ≡ count
     pub each : (i : ℕ) (lane : Lane V O R T) → slice_get lanes i ≡ Some lane → IsNewLane (u + i) room nested lane
+
+  -- how many names a lane has that is there
+  abbrev pub names_in : Option (Lane V O R T) → ℕ
+  names_in None = 0
+  names_in (Some lane) = length lane.names.items
+
+  -- how many objects trustee `number` holds at trustee u, by its lanes
+  abbrev pub names_held : ℕ → List (Lane V O R T) → ℕ → ℕ
+  names_held number lanes u = cond (nat_lt number u) (names_in (slice_get lanes (u - (number + 1)))) 0
+
+  -- so many numbers are those, from trustee 0 on
+  pub record AreCounted (number : ℕ) (lanes : List (Lane V O R T)) (count : ℕ) (held : List ℕ) : Type 0 where
+    pub as_many : length held ≡ count
+    pub each : (u x : ℕ) → slice_get held u ≡ Some x → x ≡ names_held number lanes u

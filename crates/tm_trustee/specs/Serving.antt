@@ -8,6 +8,7 @@ use Rattle.tm_model.specs.declared.entry.Entry.TheVariants.{By, Resume, Sent}
 use Rattle.tm_model.specs.Entries.{AreResumes}
 use Rattle.tm_model.specs.State.{State, Setup, ids_above}
 use Rattle.tm_state.specs.StateView.{StateView}
+use Rattle.tm_state.specs.Resuming.{AreHeld}
 use Rattle.tm_state.specs.Represents.{Represents, requests_in}
 use Rattle.tm_state.specs.Asking.{HaveAllEnded}
 use Rattle.tm_pair.specs.Views.{ClientView, hand_of}
@@ -75,6 +76,7 @@ module _ {V O R T Table Client Owner : Type 0} (theory : Theory V O R T Table Cl
       pub sides : t.number + 1 + length t.above.items ≡ opening.setup.config.trustees
       pub above : IsAbove (t.clients + t.number) t.lanes.items (ups_of t)
       pub nested : AreNested opening.setup t.nested.items
+      pub held : AreHeld opening.setup t.held.items
       -- its launched work and its lanes are as what it has done says
       pub awaited : AreAwaited kind opening (done_by t)
       pub lanes : AreLanes kind opening (done_by t) (t.number + 1) (ups_of t) t.lanes.items
@@ -97,6 +99,7 @@ module _ {V O R T Table Client Owner : Type 0} (theory : Theory V O R T Table Cl
       pub sides : t.number + 1 + length t.above.items ≡ opening.setup.config.trustees
       pub above : IsAbove (t.clients + t.number) t.lanes.items (ups_of t)
       pub nested : AreNested opening.setup t.nested.items
+      pub held : AreHeld opening.setup t.held.items
       pub awaited : AreAwaited kind opening (done_by t)
       pub lanes : AreLanes kind opening (done_by t) (t.number + 1) (ups_of t) t.lanes.items
       pub idle : AreIdle kind opening (theory.trustee_view t.side).log

@@ -1,9 +1,11 @@
 //! What a trustee keeps of a greater one.
-ghost use Rattle.std.specs.Prelude.{◌≡◌, ◌+◌, ◌^◌, ◌<◌, ◌≤◌, [], ◌∷◌, ◌++◌, length, take, drop, map, filter, ◌==◌, IfOk, IfNone, IfSome};
+ghost use Rattle.std.specs.Prelude.{ℕ, ◌≡◌, slice_get, ◌+◌, ◌^◌, ◌<◌, ◌≤◌, [], ◌∷◌, ◌++◌, length, take, drop, map, filter, ◌==◌, IfOk, IfNone, IfSome};
 ghost use Rattle.tm_batch.specs.declared.limits.TheConstants.{MOST_REQUESTS};
 ghost use Rattle.tm_trustee.specs.NestedAsks.{replied_in};
 ghost use Rattle.tm_trustee.specs.Tasks.{HasPlace, AsksAt, TakesReply};
-ghost use Rattle.tm_trustee.specs.Lanes.{IsNewLane, AreNewLanes, TakesIn, LetsGo, after_answers_lem};
+ghost use Rattle.tm_trustee.specs.Lanes.{IsNewLane, AreNewLanes, AreCounted, TakesIn, LetsGo, after_answers_lem, names_held};
+ghost use Rattle.tm_trustee.specs.declared.lane.Lane.{Lane};
+ghost use Rattle.std.specs.declared.option.Option.TheVariants.{Some};
 
 use crate::stage::Stage;
 use std::alloc::{AllocError, Global};
@@ -60,20 +62,32 @@ pub(crate) fn new_lanes<S: FitsAnswers>(
     Ok(lanes)
 }
 
-/// By trustees' numbers, how many objects are held at each: none at trustee `number` and those below it, and so many as
-/// lanes tell at those above it.
+/// How many objects a trustee holds at trustee `u`, by its lanes.
+fn held_at<S: FitsAnswers>(number: u32, lanes: &[Lane<S>], u: usize) -> u32
+    requires within { u < number + 1 + length lanes.now }
+    requires few { (i : ℕ) (lane : Lane S S.Op S.Reply S.Task) → slice_get lanes.now i ≡ Some lane → length lane.names.items < 2 ^ 32 }
+    ensures { result ≡ names_held number lanes.now u }
+{
+    if u <= number as usize {
+        return 0;
+    }
+    lanes[u - number as usize - 1].names.len() as u32
+}
+
+/// By trustees' numbers, how many objects are held at each by trustee `number`, which has these lanes.
 pub(crate) fn held_by<S: FitsAnswers>(
     alloc: Global,
     number: u32,
     lanes: &[Lane<S>],
 ) -> Result<Vec<u32>, AllocError>
-    requires few { AllByRecursion (λ lane. length lane.names.items < 2 ^ 32) lanes.now }
-    ensures { IfOk result (λ held. held.items ≡ held_by_lem number lanes.now) }
+    requires small { number + length lanes.now < 2 ^ 32 }
+    requires few { (i : ℕ) (lane : Lane S S.Op S.Reply S.Task) → slice_get lanes.now i ≡ Some lane → length lane.names.items < 2 ^ 32 }
+    ensures { IfOk result (λ held. AreCounted number lanes.now (number + 1 + length lanes.now) held.items) }
 {
-    let mut held = Vec::new(alloc);
-    held.resize(number as usize + 1, 0)?;
-    for lane in lanes {
-        held.push(lane.names.len() as u32)?;
+    let count = number as usize + 1 + lanes.len();
+    let mut held = Vec::with_capacity(alloc, count)?;
+    for u in 0..count {
+        held.push_reserved(held_at(number, lanes, u));
     }
     Ok(held)
 }

@@ -1,4 +1,5 @@
 use Rattle.std.proofs.Common.{rules, ◌≡◌, ◌≢◌, [], true, false, inl, inr, refl, sym, ◌∙◌, subst, arith}
+use Rattle.std.proofs.lemmas.Grind.{common_steps}
 use Rattle.std.specs.List.{AllByRecursion}
 use Rattle.tm_batch.specs.declared.limits.TheConstants.{MOST_REQUESTS}
 use Rattle.tm_trustee.specs.Steps.{AppliesHeld}
@@ -16,7 +17,7 @@ publish-requires g c =
     (
       g.met.S.FitsBatches.fits_batch,
       (
-        g.met.S.FitsBatches.fits_held,
+        grind (arith, common_steps, g.met.S.FitsBatches.fits_held),
         (
           c.requires.mine,
           asks.asks_are_orderly (theory.opening c.args.table.now) view c.first_asks-batch.result.requests.items c.requires.asked (c.requires.needs.unsaid some)

@@ -26,8 +26,15 @@ overflow_add-answered g c =
     let few_then = turning.is_few theory kind c.exchange_above-exchanged.new.tables c.resume_all-resumed.new.self went in
     omega (arith, few.above, few_then.number, few_then.clients, c.exchange_above-exchanged.ensures.most, c.serve_table-found.ensures.most)
 
-pub overflow_add-a : goal.overflow_add-a
-overflow_add-a g c = ?
+pub overflow_add-answered-2 : goal.overflow_add-answered-2
+overflow_add-answered-2 g c =
+    let theory = g.P.PairTable.theory in
+    let kind = g.S.Entrusted.kind in
+    let few = turning.is_few theory kind c.args.tables.now c.args.self.now c.requires.ready in
+    let went = c.resume_all-resumed.ensures.ready c.exchange_above-exchanged.new.tables c.exchange_above-exchanged.ensures.ready in
+    let few_then = turning.is_few theory kind c.exchange_above-exchanged.new.tables c.resume_all-resumed.new.self went in
+    let few_last = turning.is_few theory kind c.serve_table-found.new.tables c.serve_table-found.new.self c.serve_table-found.ensures.ready in
+    omega (arith, few.above, few_then.number, few_then.clients, few_last.above, c.exchange_above-exchanged.ensures.most, c.serve_table-found.ensures.most, c.say_byes-said.ensures.most)
 
 pub returns : goal.returns
 returns g c =
