@@ -1,6 +1,6 @@
 -- The launches that have not ended, and those that may begin.
 use Rattle.std.proofs.Common.{◌≡◌, ◌≢◌, ℕ, ◌+◌, ◌<◌, ◌≤◌, List, [], ◌∷◌, ◌++◌, length, inl, inr, refl, sym, ◌∙◌, ap, subst, arith, eq-eqb, ne_eqb, length-append}
-use Rattle.std.specs.Prelude.{◌==◌, IsSome, IfSome, option_map, slice_get, drop}
+use Rattle.std.specs.Prelude.{IsSome, IfSome, option_map, slice_get, drop}
 use Rattle.std.specs.List.{AllByRecursion}
 use Rattle.std.specs.declared.option.Option.{Option}
 use Rattle.std.specs.declared.option.Option.TheVariants.{None, Some}
@@ -11,7 +11,7 @@ use Rattle.tm_latch.specs.declared.entered.Entered.{Entered}
 use Rattle.tm_latch.specs.declared.entered.Entered.TheVariants.{Running, Queued}
 use Rattle.circular_buffer.specs.Buffer.{Buffer, buffer}
 use Rattle.tm_latch.proofs.Listed.{first_head, first_none, entered_own, entered_other, left_own, left_other, left_length, with_own, with_other, with_length}
-use Rattle.tm_model.specs.State.{Awaits, Start}
+use Rattle.tm_model.specs.State.{Start}
 use Rattle.tm_core.proofs.CallerLemmas.{all_weaker, all-append, option_cases}
 use Rattle.tm_state.specs.Launches.{Pending, AreFirst, AreBehind, Begins, BeginsBut, Latched, to_begin, one_to_begin}
 use Rattle.tm_state.proofs.RowsWorks.{some_of}
@@ -161,8 +161,7 @@ module _ {T : Type 0} where
       elim (cases_eq u.id id) [
         | inl here ↦
             let f = rw (eq-eqb u.id id here) at e in
-            let same : u ≡ b = cc in
-            (
+            let same : u ≡ b = cc in (
               subst (λ i. first_of i launched ≡ Some b) here (h.0 ∙ ap (λ (x : Ticket (Pending T)). Some x) same),
               ap (λ (x : Ticket (Pending T)). x.task.awaits) (sym same) ∙ h.1,
             )
@@ -496,7 +495,7 @@ module _ {T : Type 0} where
         let long = shorter in
         let fits = h.3 in (
           subst (λ x. AreFirst (without_first id launched) x) (sym (ap (λ (q : Buffer (Ticket (Pending T))). q.items) is ∙ ap (λ x. begins ++ x ∷ []) same))
-          (end_next id launched begins l none h.0 some h.1 first),
+              (end_next id launched begins l none h.0 some h.1 first),
           end_behind id launched some h.1,
           ap (λ (q : Buffer (Ticket (Pending T))). q.capacity) is ∙ h.2,
           omega (arith, long, fits),
