@@ -29,7 +29,7 @@ use Rattle.tm_core.proofs.Unfinished.{unfinished_kept, unfinished_changed, unfin
 use Rattle.tm_state.specs.Launches.{Pending, AwaitsAny, work_of, works_at}
 use Rattle.tm_state.specs.StateView.{StateView}
 use Rattle.tm_state.specs.Represents.{Keeps}
-use Rattle.tm_state.proofs.LaunchLists.{head_of}
+use Rattle.tm_state.proofs.LaunchTickets.{head_of}
 use Rattle.tm_state.proofs.ResumeLands.{ask_next, done_next, gone, settled, settled_ask, change_twice, held_total, works_as_many}
 use Rattle.tm_state.proofs.RowsLaunch.{all_change}
 use Rattle.tm_state.proofs.RowsLive.{found_alike}

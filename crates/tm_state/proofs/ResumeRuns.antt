@@ -34,7 +34,7 @@ use Rattle.tm_state.specs.StateView.{StateView}
 use Rattle.tm_state.specs.Represents.{Keeps, Represents, requests_in}
 use Rattle.tm_state.specs.Resuming.{Continues, Settles, Finishes, HasGoneOn, IsResumable, KeepsOn, AllAwait}
 use Rattle.tm_state.proofs.BatchRuns.{requests_in-append}
-use Rattle.tm_state.proofs.LaunchLists.{on_fewer, end_fewer}
+use Rattle.tm_state.proofs.LaunchCounts.{on_fewer, end_fewer}
 use Rattle.tm_state.proofs.ResumeKeeps.{first_at, all_first, launch_counts, ready_place, ready_room, keeps_ask, keeps_done}
 use Rattle.tm_state.proofs.ResumeLands.{StopsAbove, settled, runs_land}
 
