@@ -40,7 +40,11 @@ fn pick_enter<K, E: Items<Ticket<K>>>(
 }
 
 /// The first ticket of an object has another task.
-pub(crate) fn after_goes_on<K>(known: &GhostList<Ticket<K>>, id: u64, task: &K) -> GhostList<Ticket<K>>
+pub(crate) fn after_goes_on<K>(
+    known: &GhostList<Ticket<K>>,
+    id: u64,
+    task: &K,
+) -> GhostList<Ticket<K>>
     ensures { result.items ≡ with_first id task.now known.now.items }
 {
     pick_goes_on::<K, Brand>(known, id, task)

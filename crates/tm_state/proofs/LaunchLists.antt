@@ -1,126 +1,19 @@
 -- The launches that have not ended, and those that may begin.
 use Rattle.std.proofs.Common.{◌≡◌, ◌≢◌, ℕ, ◌+◌, ◌<◌, ◌≤◌, List, [], ◌∷◌, ◌++◌, length, inl, inr, refl, sym, ◌∙◌, ap, subst, arith, eq-eqb, ne_eqb, length-append}
-use Rattle.std.specs.Prelude.{◌==◌, IsSome, IfSome, option_map, slice_get, drop}
+use Rattle.std.specs.Prelude.{IsSome, IfSome, slice_get, drop}
 use Rattle.std.specs.List.{AllByRecursion}
 use Rattle.std.specs.declared.option.Option.{Option}
 use Rattle.std.specs.declared.option.Option.TheVariants.{None, Some}
 use Rattle.std.proofs.lemmas.Bool.{cases_eq, false≢true}
 use Rattle.tm_latch.specs.declared.ticket.Ticket.{Ticket}
-use Rattle.tm_latch.specs.Tickets.{ticket_for, first_of, tickets_of, with_first, without_first}
-use Rattle.tm_latch.specs.declared.entered.Entered.{Entered}
-use Rattle.tm_latch.specs.declared.entered.Entered.TheVariants.{Running, Queued}
+use Rattle.tm_latch.specs.Tickets.{first_of, tickets_of, with_first, without_first}
 use Rattle.circular_buffer.specs.Buffer.{Buffer, buffer}
 use Rattle.tm_latch.proofs.Listed.{first_head, first_none, entered_own, entered_other, left_own, left_other, left_length, with_own, with_other, with_length}
-use Rattle.tm_model.specs.State.{Awaits, Start}
+use Rattle.tm_model.specs.State.{Start}
 use Rattle.tm_core.proofs.CallerLemmas.{all_weaker, all-append, option_cases}
-use Rattle.tm_state.specs.Launches.{Pending, AreFirst, AreBehind, Begins, BeginsBut, Latched, to_begin, one_to_begin}
+use Rattle.tm_state.specs.Launches.{Pending, AreFirst, AreBehind, Begins, BeginsBut, Latched}
 use Rattle.tm_state.proofs.RowsWorks.{some_of}
-
-module _ {K : Type 0} where
-  -- the first launch of an object is the first of its launches
-  head_by : (id : ℕ) (ts own : List (Ticket K)) (t : Ticket K) → tickets_of id ts ≡ own → first_of id ts ≡ Some t → (rest : List (Ticket K)) × (own ≡ t ∷ rest)
-  head_by id ts [] t is first = absurd (let none = first_none id ts is in let bad : None ≡ Some t = sym none ∙ first in cc)
-  head_by id ts (u ∷ rest) t is first =
-      let found : Some u ≡ Some t = sym (first_head id ts u rest is) ∙ first in
-      let same : u ≡ t = cc in
-      (rest, ap (λ x. x ∷ rest) same)
-
-  pub head_of : (id : ℕ) (ts : List (Ticket K)) (t : Ticket K) → first_of id ts ≡ Some t → (rest : List (Ticket K)) × (tickets_of id ts ≡ t ∷ rest)
-  head_of id ts t first = head_by id ts (tickets_of id ts) t refl first
-
-  same_by : (id : ℕ) (xs ys own : List (Ticket K)) → tickets_of id xs ≡ own → tickets_of id ys ≡ own → first_of id xs ≡ first_of id ys
-  same_by id xs ys [] x y = first_none id xs x ∙ sym (first_none id ys y)
-  same_by id xs ys (t ∷ rest) x y = first_head id xs t rest x ∙ sym (first_head id ys t rest y)
-
-  -- who has the same launches of an object has the same first
-  pub first_same : (id : ℕ) (xs ys : List (Ticket K)) → tickets_of id xs ≡ tickets_of id ys → first_of id xs ≡ first_of id ys
-  first_same id xs ys e = same_by id xs ys (tickets_of id ys) e refl
-
-  pub first_id : (id : ℕ) (ts : List (Ticket K)) (t : Ticket K) → first_of id ts ≡ Some t → t.id ≡ id
-  first_id id [] t e = absurd cc
-  first_id id (u ∷ ts) t e =
-      elim (cases_eq u.id id) [
-        | inl here ↦ let f = rw (eq-eqb u.id id here) at e in let same : u ≡ t = cc in ap (λ x. x.id) (sym same) ∙ here
-        | inr ne ↦ first_id id ts t (rw (ne_eqb u.id id ne) at e)
-      ]
-
-  -- one more behind
-  pub append_some : (id : ℕ) (ts : List (Ticket K)) (l t : Ticket K) → first_of id ts ≡ Some t → first_of id (ts ++ l ∷ []) ≡ Some t
-  append_some id [] l t e = absurd cc
-  append_some id (u ∷ ts) l t e =
-      elim (cases_eq u.id id) [
-        | inl here ↦ let f = rw (eq-eqb u.id id here) at e in rw (eq-eqb u.id id here) f
-        | inr ne ↦ rw (ne_eqb u.id id ne) (append_some id ts l t (rw (ne_eqb u.id id ne) at e))
-      ]
-
-  pub append_last : (id : ℕ) (ts : List (Ticket K)) (l : Ticket K) → first_of id ts ≡ None → l.id ≡ id → first_of id (ts ++ l ∷ []) ≡ Some l
-  append_last id [] l e own = rw (eq-eqb l.id id own) refl
-  append_last id (u ∷ ts) l e own =
-      elim (cases_eq u.id id) [
-        | inl here ↦ absurd (let f = rw (eq-eqb u.id id here) at e in cc)
-        | inr ne ↦ rw (ne_eqb u.id id ne) (append_last id ts l (rw (ne_eqb u.id id ne) at e) own)
-      ]
-
-  pub append_none : (id : ℕ) (ts : List (Ticket K)) (l : Ticket K) → first_of id ts ≡ None → l.id ≢ id → first_of id (ts ++ l ∷ []) ≡ None
-  append_none id [] l e other = rw (ne_eqb l.id id other) refl
-  append_none id (u ∷ ts) l e other =
-      elim (cases_eq u.id id) [
-        | inl here ↦ absurd (let f = rw (eq-eqb u.id id here) at e in cc)
-        | inr ne ↦ rw (ne_eqb u.id id ne) (append_none id ts l (rw (ne_eqb u.id id ne) at e) other)
-      ]
-
-  none_all : (id : ℕ) (ts : List (Ticket K)) → first_of id ts ≡ None → AllByRecursion (λ t. t.id ≢ id) ts
-  none_all id [] e = tt
-  none_all id (u ∷ ts) e =
-      elim (cases_eq u.id id) [
-        | inl here ↦ absurd (let f = rw (eq-eqb u.id id here) at e in cc)
-        | inr ne ↦ (ne, none_all id ts (rw (ne_eqb u.id id ne) at e))
-      ]
-
--- what a ticket found, by whether a ticket runs
-pub is_running :
-    {X K : Type 0} (o : Option X) (r : Entered K) (task back : K) → (o ≡ None → r ≡ Running task) → (IsSome o → r ≡ Queued) → r ≡ Running back
-    → (o ≡ None) × (back ≡ task)
-is_running o r task back runs waits is =
-    elim (option_cases o) [
-      | inl none ↦ let e : Running back ≡ Running task = sym is ∙ runs none in (none, cc)
-      | inr some ↦ absurd (let e : Running back ≡ Queued = sym is ∙ waits (subst (λ x. IsSome x) (sym some.1) refl) in cc)
-    ]
-
-pub is_waiting :
-    {X K : Type 0} (o : Option X) (r : Entered K) (task : K) → (o ≡ None → r ≡ Running task) → r ≡ Queued → IsSome o
-is_waiting o r task runs is =
-    elim (option_cases o) [
-      | inl none ↦ absurd (let e : Queued ≡ Running task = sym is ∙ runs none in cc)
-      | inr some ↦ subst (λ x. IsSome x) (sym some.1) refl
-    ]
-
--- the ticket that is handed out
-pub next_there :
-    {K : Type 0} (o : Option (Ticket K)) (r : Option (ℕ × K)) (n : ℕ) (k : K) → r ≡ option_map (λ t. (t.number, t.task)) o → r ≡ Some (n, k)
-    → (l : Ticket K) × (o ≡ Some l) × (l.number ≡ n) × (l.task ≡ k)
-next_there {K} o r n k is some =
-    elim (option_cases o) [
-      | inl none ↦
-          absurd (let e : ◌≡◌ {A = Option (ℕ × K)} (Some (n, k)) None = sym some ∙ is ∙ ap (λ x. option_map (λ t. (t.number, t.task)) x) none in cc)
-      | inr there ↦
-          let l = there.0 in
-          let e : ◌≡◌ {A = Option (ℕ × K)} (Some (n, k)) (Some (l.number, l.task)) = sym some ∙ is ∙ ap (λ x. option_map (λ t. (t.number, t.task)) x) there.1 in
-          let p : ◌≡◌ {A = ℕ × K} (n, k) (l.number, l.task) = cc in
-          (l, there.1, ap (λ (x : ℕ × K). x.0) (sym p), ap (λ (x : ℕ × K). x.1) (sym p))
-    ]
-
-pub none_there : {K : Type 0} (o : Option (Ticket K)) (r : Option (ℕ × K)) → r ≡ option_map (λ t. (t.number, t.task)) o → r ≡ None → o ≡ None
-none_there {K} o r is none =
-    elim (option_cases o) [
-      | inl e ↦ e
-      | inr there ↦
-          absurd (let l = there.0 in let e : ◌≡◌ {A = Option (ℕ × K)} None (Some (l.number, l.task)) = sym none ∙ is ∙ ap (λ x. option_map (λ t. (t.number, t.task)) x) there.1 in cc)
-    ]
-
-pub ticket_is : {K : Type 0} (l : Ticket K) (id n : ℕ) (k : K) → l.id ≡ id → l.number ≡ n → l.task ≡ k → ticket_for id n k ≡ l
-ticket_is l id n k own number task =
-    ap (λ i. ticket_for i n k) (sym own) ∙ ap (λ i. ticket_for l.id i k) (sym number) ∙ ap (λ t. ticket_for l.id l.number t) (sym task)
+use Rattle.tm_state.proofs.LaunchTickets.{head_of, first_same, first_id, append_some, append_last, append_none, none_all}
 
 module _ {T : Type 0} where
   -- those that may begin are first in another list, where each is
@@ -161,8 +54,7 @@ module _ {T : Type 0} where
       elim (cases_eq u.id id) [
         | inl here ↦
             let f = rw (eq-eqb u.id id here) at e in
-            let same : u ≡ b = cc in
-            (
+            let same : u ≡ b = cc in (
               subst (λ i. first_of i launched ≡ Some b) here (h.0 ∙ ap (λ (x : Ticket (Pending T)). Some x) same),
               ap (λ (x : Ticket (Pending T)). x.task.awaits) (sym same) ∙ h.1,
             )
@@ -378,41 +270,6 @@ module _ {T : Type 0} where
         | inr ne ↦ h other t ne (sym (first_same other (without_first id launched) launched (left_other id launched other ne)) ∙ first) start
       ]
 
-  -- one less has not begun, once one has
-  pub on_fewer :
-      (id : ℕ) (k : Pending T) (launched : List (Ticket (Pending T))) (t : Ticket (Pending T)) → first_of id launched ≡ Some t → t.task.awaits ≡ Start
-      → one_to_begin k.awaits ≡ 0 → to_begin (with_first id k launched) + 1 ≡ to_begin launched
-  unfolding with_first
-  on_fewer id k [] t first start begun = absurd cc
-  on_fewer id k (u ∷ launched) t first start begun =
-      elim (cases_eq u.id id) [
-        | inl here ↦
-            let f = rw (eq-eqb u.id id here) at first in
-            let same : u ≡ t = cc in
-            let was : one_to_begin u.task.awaits ≡ 1 = ap (λ (x : Ticket (Pending T)). one_to_begin x.task.awaits) same ∙ ap one_to_begin start in
-            rw (eq-eqb u.id id here) (omega (arith, was, begun))
-        | inr ne ↦
-            let more = on_fewer id k launched t (rw (ne_eqb u.id id ne) at first) start begun in
-            rw (ne_eqb u.id id ne) (omega (arith, more))
-      ]
-
-  pub end_fewer :
-      (id : ℕ) (launched : List (Ticket (Pending T))) (t : Ticket (Pending T)) → first_of id launched ≡ Some t → t.task.awaits ≡ Start
-      → to_begin (without_first id launched) + 1 ≡ to_begin launched
-  unfolding without_first
-  end_fewer id [] t first start = absurd cc
-  end_fewer id (u ∷ launched) t first start =
-      elim (cases_eq u.id id) [
-        | inl here ↦
-            let f = rw (eq-eqb u.id id here) at first in
-            let same : u ≡ t = cc in
-            let was : one_to_begin u.task.awaits ≡ 1 = ap (λ (x : Ticket (Pending T)). one_to_begin x.task.awaits) same ∙ ap one_to_begin start in
-            rw (eq-eqb u.id id here) (omega (arith, was))
-        | inr ne ↦
-            let more = end_fewer id launched t (rw (ne_eqb u.id id ne) at first) start in
-            rw (ne_eqb u.id id ne) (omega (arith, more))
-      ]
-
   -- what `Launches` keeps: those that may begin are first, those behind have not begun, and there is room
   abbrev pub IsSoundList : List (Ticket (Pending T)) → List (Ticket (Pending T)) → ℕ → ℕ → Type 0
   IsSoundList launched begins capacity room = AreFirst launched begins × AreBehind launched × (capacity ≡ room) × (length launched ≤ room)
@@ -496,7 +353,7 @@ module _ {T : Type 0} where
         let long = shorter in
         let fits = h.3 in (
           subst (λ x. AreFirst (without_first id launched) x) (sym (ap (λ (q : Buffer (Ticket (Pending T))). q.items) is ∙ ap (λ x. begins ++ x ∷ []) same))
-          (end_next id launched begins l none h.0 some h.1 first),
+              (end_next id launched begins l none h.0 some h.1 first),
           end_behind id launched some h.1,
           ap (λ (q : Buffer (Ticket (Pending T))). q.capacity) is ∙ h.2,
           omega (arith, long, fits),

@@ -5,7 +5,9 @@ pub mod BatchLeaves
 pub mod BatchMore
 pub mod BatchRuns
 pub mod TaskRuns
+pub mod LaunchCounts
 pub mod LaunchLists
+pub mod LaunchTickets
 pub mod OpenedByes
 pub mod OpenedObjects
 pub mod OpenedState

@@ -111,9 +111,9 @@ module _ {V : Type 0} (O R T : Type 0) where
 
 -- an object of the build has no launch
 opened_works :
-    {V T : Type 0} (n id : ℕ) (first : List (First V)) → AllByRecursion (λ o. works_at {T = T} o.id [] ≡ o.works) (opened {T = T} n id first)
-opened_works n id [] = tt
-opened_works {T = T} n id (f ∷ first) = (refl, opened_works {T = T} n (id + 1) first)
+    {V : Type 0} (T : Type 0) (n id : ℕ) (first : List (First V)) → AllByRecursion (λ o. works_at {T = T} o.id [] ≡ o.works) (opened {T = T} n id first)
+opened_works T n id [] = tt
+opened_works T n id (f ∷ first) = (refl, opened_works T n (id + 1) first)
 
 module _ {V O R T : Type 0} (kind : Kind V O R T) where
   -- once all objects of the build are placed, a trustee has what its empty log leaves
@@ -138,7 +138,7 @@ module _ {V O R T : Type 0} (kind : Kind V O R T) where
           stock = ap (λ g. record (stock_of s) { gifts = g }) gifts;
           closed = closed;
           next_ticket = refl;
-          works = opened_works n 1 (placed_on number whole);
+          works = opened_works T n 1 (placed_on number whole);
           live = tt;
           awaits = tt;
           ready = ready;

@@ -1,5 +1,5 @@
 -- The completions that are ready, in a queue for each place.
-use Rattle.std.proofs.Common.{◌≡◌, ℕ, ◌+◌, ◌<◌, List, [], ◌∷◌, ◌++◌, length, get_or, set, refl, sym, ap, ◌∙◌}
+use Rattle.std.proofs.Common.{◌≡◌, ℕ, ◌+◌, ◌<◌, List, [], ◌∷◌, ◌++◌, length, get_or, set, sym, ap, ◌∙◌}
 use Rattle.std.specs.Prelude.{map, replicate, All}
 use Rattle.std.proofs.lemmas.List.{map-append, map-set, get_or-map, length-map, replicate-append-replicate}
 use Rattle.std.proofs.lemmas.List.Elements.{All-set, All-push, All-get_or}

@@ -1,14 +1,12 @@
 -- What a trustee has once a launch has gone on.
-use Rattle.std.proofs.Common.{◌≡◌, ◌≢◌, ℕ, ◌+◌, ◌<◌, ◌≤◌, true, false, cond, List, [], ◌∷◌, ◌++◌, length, map, slice_index_or, slice_set, inl, inr, refl, sym, ◌∙◌, ap, subst, arith, eq-eqb, ne_eqb, length-append, length-set, get_or-set_same, get_or-set_other}
+use Rattle.std.proofs.Common.{◌≡◌, ℕ, ◌+◌, ◌<◌, ◌≤◌, true, false, cond, List, [], ◌∷◌, ◌++◌, length, map, slice_index_or, slice_set, inl, inr, refl, sym, ◌∙◌, ap, subst, arith, eq-eqb, ne_eqb, length-append, length-set, get_or-set_same, get_or-set_other}
 use Rattle.std.specs.Prelude.{◌==◌, IsSome}
 use Rattle.std.specs.List.{AllByRecursion}
-use Rattle.std.specs.declared.option.Option.TheVariants.{None, Some}
+use Rattle.std.specs.declared.option.Option.TheVariants.{Some}
 use Rattle.std.proofs.Math.ListN.{get_or-map}
 use Rattle.std.proofs.Math.Seq.{map-set_same}
 use Rattle.std.proofs.lemmas.Bool.{cases_eq}
 use Rattle.std.proofs.lemmas.List.{length-map, map-set}
-use Rattle.tm_seq.specs.Kind.{Kind}
-use Rattle.tm_seq.specs.declared.kind.Next.{Next}
 use Rattle.tm_seq.specs.declared.kind.Next.TheVariants.{Ask, Done}
 use Rattle.tm_batch.specs.declared.limits.TheConstants.{WINDOW}
 use Rattle.tm_batch.specs.declared.message.Completion.{Completion}
@@ -16,7 +14,7 @@ use Rattle.tm_batch.specs.declared.message.Name.{Name}
 use Rattle.tm_latch.specs.declared.ticket.Ticket.{Ticket}
 use Rattle.tm_latch.specs.Tickets.{first_of, tickets_of, with_first, without_first}
 use Rattle.tm_latch.proofs.Listed.{left_own, left_other, with_own, with_other}
-use Rattle.tm_model.specs.State.{Awaits, Start, AskOf, Work, Object, Place, State, no_place, place_of, place_count, object_of, change, kept, with_place, with_live}
+use Rattle.tm_model.specs.State.{AskOf, Work, Object, Place, State, no_place, place_of, place_count, object_of, change, kept, with_place, with_live}
 use Rattle.tm_model.specs.Serve.{works_resumed, works_in, completed}
 use Rattle.tm_model.specs.Holds.{works_of, unfinished}
 use Rattle.tm_model.specs.Laws.{IsSound, IsSoundObject}
@@ -31,7 +29,7 @@ use Rattle.tm_core.proofs.Unfinished.{unfinished_kept, unfinished_changed, unfin
 use Rattle.tm_state.specs.Launches.{Pending, AwaitsAny, work_of, works_at}
 use Rattle.tm_state.specs.StateView.{StateView}
 use Rattle.tm_state.specs.Represents.{Keeps}
-use Rattle.tm_state.proofs.LaunchLists.{head_of, first_id}
+use Rattle.tm_state.proofs.LaunchTickets.{head_of}
 use Rattle.tm_state.proofs.ResumeLands.{ask_next, done_next, gone, settled, settled_ask, change_twice, held_total, works_as_many}
 use Rattle.tm_state.proofs.RowsLaunch.{all_change}
 use Rattle.tm_state.proofs.RowsLive.{found_alike}

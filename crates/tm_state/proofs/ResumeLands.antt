@@ -1,6 +1,5 @@
 -- Where the entries of a task that goes on land: in the state of one resume, by what the task does last.
-use Rattle.std.proofs.Common.{◌≡◌, ℕ, ◌+◌, ◌<◌, ◌≤◌, Bool, true, false, cond, List, [], ◌∷◌, ◌++◌, length, map, sum, inl, inr, refl, sym, ◌∙◌, ap, subst, arith, eq-eqb, ne_eqb}
-use Rattle.std.specs.Prelude.{◌==◌, slice_index_or}
+use Rattle.std.proofs.Common.{◌≡◌, ℕ, ◌≤◌, Bool, true, false, cond, List, [], ◌∷◌, ◌++◌, length, inl, inr, refl, sym, ◌∙◌, ap, subst, arith, eq-eqb, ne_eqb}
 use Rattle.std.specs.List.{AllByRecursion}
 use Rattle.std.specs.declared.option.Option.TheVariants.{Some}
 use Rattle.std.specs.Option.{IsSomeAnd}
@@ -12,7 +11,7 @@ use Rattle.tm_seq.specs.declared.kind.Next.{Next}
 use Rattle.tm_seq.specs.declared.kind.Next.TheVariants.{Ask, Done}
 use Rattle.tm_model.specs.declared.entry.Entry.{Entry}
 use Rattle.tm_model.specs.declared.entry.Entry.TheVariants.{By, Resume, Sent}
-use Rattle.tm_model.specs.State.{AskOf, Work, Setup, Object, State, total, change, kept, object_of, place_count, with_live, ids_above}
+use Rattle.tm_model.specs.State.{AskOf, Work, Setup, Object, State, total, change, kept, object_of, place_count, with_live}
 use Rattle.tm_model.specs.Serve.{is_lacking, value_resumed, value_advanced, works_resumed, works_in, completed, after, state_after}
 use Rattle.tm_model.specs.Legal.{IsAwaited, HasFirst, MayCome, IsLegal}
 use Rattle.tm_model.specs.Laws.{IsOpening, IsSound, IsSoundObject}

@@ -25,7 +25,6 @@ use Rattle.tm_model.specs.Laws.{IsSound}
 use Rattle.tm_objects.specs.Live.{HasLive}
 use Rattle.tm_objects.specs.Live as live
 use Rattle.tm_objects.specs.Stock.{Stock, changed}
-use Rattle.tm_objects.specs.Standing.{live_of}
 use Rattle.tm_core.proofs.CallerLemmas.{all_weaker}
 use Rattle.tm_core.proofs.Joins.{legal_logs_join, state-append}
 use Rattle.tm_core.proofs.Sound.{states_are_sound}
@@ -35,8 +34,8 @@ use Rattle.tm_state.specs.StateView.{StateView}
 use Rattle.tm_state.specs.Represents.{Keeps, Represents, requests_in}
 use Rattle.tm_state.specs.Resuming.{Continues, Settles, Finishes, HasGoneOn, IsResumable, KeepsOn, AllAwait}
 use Rattle.tm_state.proofs.BatchRuns.{requests_in-append}
-use Rattle.tm_state.proofs.LaunchLists.{on_fewer, end_fewer}
-use Rattle.tm_state.proofs.ResumeKeeps.{FirstAt, first_at, all_first, launch_counts, ready_place, ready_room, keeps_ask, keeps_done}
+use Rattle.tm_state.proofs.LaunchCounts.{on_fewer, end_fewer}
+use Rattle.tm_state.proofs.ResumeKeeps.{first_at, all_first, launch_counts, ready_place, ready_room, keeps_ask, keeps_done}
 use Rattle.tm_state.proofs.ResumeLands.{StopsAbove, settled, runs_land}
 
 -- who has not begun may be told to begin, and who has, the reply
@@ -199,8 +198,7 @@ module _ {V O R T : Type 0} (kind : Kind V O R T) (laws : KindLaws kind) (held :
     -- what it did, of what was had
     pub gone_marked : (new : StateView V O R T) → launched ≡ new.launched → ready ≡ new.ready → HasGoneOn kind held l event es result old new
     gone_marked new is_launched is_ready =
-        subst (λ h. HasGoneOn kind held l event es result h new) same
-        (
+        subst (λ h. HasGoneOn kind held l event es result h new) same (
           v,
           w,
           next,

@@ -1,5 +1,5 @@
 -- What is had after a row keeps what the state says then.
-use Rattle.std.proofs.Common.{◌≡◌, ℕ, Bool, List, [], ◌<◌, ◌≤◌, length, length-set, map, slice_index_or, slice_set, inl, inr, refl, sym, ◌∙◌, ap, subst, arith, get_or-set_same, get_or-set_other}
+use Rattle.std.proofs.Common.{◌≡◌, ℕ, Bool, List, ◌<◌, ◌≤◌, length, length-set, map, slice_index_or, slice_set, inl, inr, sym, ◌∙◌, ap, subst, arith, get_or-set_same, get_or-set_other}
 use Rattle.std.proofs.Math.Seq.{map-set_same}
 use Rattle.std.proofs.lemmas.Bool.{cases_eq}
 use Rattle.tm_seq.specs.Kind.{Kind}

@@ -1,5 +1,5 @@
 -- There is room for one more launch.
-use Rattle.std.proofs.Common.{◌≡◌, ℕ, ◌+◌, ◌*◌, ◌<◌, ◌≤◌, cond, true, false, List, [], ◌∷◌, ◌++◌, length, map, inl, inr, refl, sym, ◌∙◌, ap, subst, arith, eq-eqb, ne_eqb, length-append}
+use Rattle.std.proofs.Common.{◌≡◌, ℕ, ◌+◌, ◌*◌, ◌<◌, ◌≤◌, cond, true, false, List, [], ◌∷◌, ◌++◌, length, inl, inr, refl, sym, ◌∙◌, ap, subst, arith, eq-eqb, ne_eqb, length-append}
 use Rattle.std.specs.Prelude.{◌==◌, IsSome}
 use Rattle.std.specs.List.{AllByRecursion}
 use Rattle.std.proofs.lemmas.Bool.{cases_eq, false≢true}
@@ -17,7 +17,7 @@ use Rattle.tm_core.proofs.Unfinished.{works_of-append}
 use Rattle.tm_state.specs.Launches.{Pending, work_of, works_at}
 use Rattle.tm_state.specs.StateView.{StateView}
 use Rattle.tm_state.specs.Asking.{IsAsked}
-use Rattle.tm_state.proofs.RowsTotal.{below, all_below, below_few}
+use Rattle.tm_state.proofs.RowsTotal.{all_below, below_few}
 
 module _ {V T : Type 0} where
   -- the launches of all objects

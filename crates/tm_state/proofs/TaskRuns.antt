@@ -1,6 +1,6 @@
 -- A task that goes on: what it has done so far, and what it does in the end.
 use Rattle.std.proofs.Common.{◌≡◌, ℕ, ◌+◌, ◌-◌, ◌^◌, ◌<◌, min, List, [], ◌∷◌, ◌++◌, length, inl, inr, refl, sym, ◌∙◌, ap, subst, arith, append_assoc, append-nil, length-append}
-use Rattle.std.specs.declared.option.Option.TheVariants.{None, Some}
+use Rattle.std.specs.declared.option.Option.TheVariants.{Some}
 use Rattle.tm_seq.specs.Kind.{Kind, KindLaws, Falls, IsResume}
 use Rattle.tm_seq.specs.declared.kind.Event.{Event}
 use Rattle.tm_seq.specs.declared.kind.Event.TheVariants.{Begin, Reply, NotAbove, NoObject}
@@ -77,8 +77,7 @@ module _ {V O R T : Type 0} where
           let had = done.count in
           let lawful : IsResume kind v task event w (Done r) = subst (λ n. IsResume kind v task event w n) is resume in
           let es : List (Entry V O R T) = Resume id ticket event (Done r) ∷ [] in
-          let same : done.front ++ Resume id ticket event next ∷ [] ≡ done.front ++ es = ap (λ n. done.front ++ Resume id ticket event n ∷ []) is in
-          (
+          let same : done.front ++ Resume id ticket event next ∷ [] ≡ done.front ++ es = ap (λ n. done.front ++ Resume id ticket event n ∷ []) is in (
             done.front ++ es,
             subst (λ l. Makes l first_made more) same (makes_more done.front (Resume id ticket event next ∷ []) first_made made more done.makes makes),
             let n = ap length same in omega (arith, long, had, count, n),

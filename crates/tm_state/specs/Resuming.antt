@@ -10,10 +10,10 @@ use Rattle.tm_seq.specs.declared.kind.Next.{Next}
 use Rattle.tm_seq.specs.declared.kind.Next.TheVariants.{Ask, Done}
 use Rattle.tm_batch.specs.declared.message.Completion.{Completion}
 use Rattle.tm_latch.specs.declared.ticket.Ticket.{Ticket}
-use Rattle.tm_latch.specs.Tickets.{first_of, with_first, without_first}
+use Rattle.tm_latch.specs.Tickets.{with_first, without_first}
 use Rattle.tm_model.specs.declared.entry.Entry.{Entry}
 use Rattle.tm_model.specs.declared.entry.Entry.TheVariants.{By, Resume, Sent}
-use Rattle.tm_model.specs.State.{Awaits, Start, AskOf, Object, State, Setup, ids_above}
+use Rattle.tm_model.specs.State.{AskOf, State, Setup, ids_above}
 use Rattle.tm_model.specs.Serve.{state_after}
 use Rattle.tm_model.specs.Legal.{HasFirst}
 use Rattle.tm_objects.specs.Live.{HasLive}
@@ -90,7 +90,7 @@ module _ {V O R T : Type 0} where
       Kind V O R T → List ℕ → Ticket (Pending T) → Event R → List (Entry V O R T) → Resumed V O R T → StateView V O R T → StateView V O R T → Type 0
   HasGoneOn kind held l event es result old new =
       (v : V) × (w : V) × (next : Next O T R) × HasLive old.stock.live l.id (λ o. v ≡ o.value)
-      × Continues kind old.number held l.id l.number v l.task.task event es w next 
+      × Continues kind old.number held l.id l.number v l.task.task event es w next
       × Settles l.id l.number l.task.place next result old.launched new.launched old.ready new.ready
 
   -- a trustee has what its log leaves, and holds so many objects at each trustee

@@ -65,8 +65,7 @@ impl<S: Entrusted> TrusteeState<S> {
         }
         self.tickets += 1;
         self.objects.begin(name);
-        self.launches
-            .add(to_begin(name, self.tickets, place, task));
+        self.launches.add(to_begin(name, self.tickets, place, task));
         Answer::Launched(self.tickets)
     }
 

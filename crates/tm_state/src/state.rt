@@ -15,7 +15,8 @@ use std::marker::Model;
 use std::mem;
 use tm_base::Gate;
 use tm_batch::{
-    Answer, AnswerBatch, Batch, Config, First, FitsAnswers, MOST_COMPLETIONS, MOST_ROOM, Request, WINDOW,
+    Answer, AnswerBatch, Batch, Config, First, FitsAnswers, MOST_COMPLETIONS, MOST_ROOM, Request,
+    WINDOW,
 };
 use tm_objects::Objects;
 use tm_seq::Entrusted;

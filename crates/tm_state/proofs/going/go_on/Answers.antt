@@ -1,8 +1,7 @@
-use Rattle.std.proofs.Common.{◌∙◌, ap, sym}
-use Rattle.std.specs.Prelude.{◌≡◌}
+use Rattle.std.proofs.Common.{◌∙◌, ap}
 use Rattle.tm_latch.specs.declared.ticket.Ticket.{Ticket}
 use Rattle.tm_state.specs.Launches.{Pending}
-use Rattle.tm_state.proofs.TaskRuns.{done_none, done_more, does_end, does_ask, asks_fall}
+use Rattle.tm_state.proofs.TaskRuns.{done_none}
 use Rattle.tm_state.proofs.going.go_on.Goals as goal
 
 pub loop-reply-init : goal.loop-reply-init

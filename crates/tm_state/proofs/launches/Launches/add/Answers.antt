@@ -4,7 +4,8 @@ use Rattle.tm_latch.specs.Tickets.{ticket_for, first_of}
 use Rattle.tm_model.specs.State.{Start}
 use Rattle.tm_objects.proofs.Queues.{on_ok}
 use Rattle.tm_state.specs.Launches.{Pending, Latched}
-use Rattle.tm_state.proofs.LaunchLists.{is_running, is_waiting, add_room, add_sound_first, add_sound_behind, added_first, added_behind}
+use Rattle.tm_state.proofs.LaunchLists.{add_room, add_sound_first, add_sound_behind, added_first, added_behind}
+use Rattle.tm_state.proofs.LaunchTickets.{is_running, is_waiting}
 use Rattle.tm_state.proofs.launches.Launches.add.Goals.{in-Err-1, in-Ok-1}
 use Rattle.tm_state.proofs.launches.Launches.add.Goals as goal
 

@@ -4,7 +4,8 @@ use Rattle.std.specs.declared.option.Option.TheVariants.{None}
 use Rattle.tm_latch.specs.Tickets.{ticket_for, first_of, without_first}
 use Rattle.tm_objects.proofs.Queues.{on_ok}
 use Rattle.tm_state.specs.Launches.{Latched}
-use Rattle.tm_state.proofs.LaunchLists.{first_id, next_there, none_there, ticket_is, end_room, end_sound_next, end_sound_none, ended_next, ended_none}
+use Rattle.tm_state.proofs.LaunchLists.{end_room, end_sound_next, end_sound_none, ended_next, ended_none}
+use Rattle.tm_state.proofs.LaunchTickets.{first_id, next_there, none_there, ticket_is}
 use Rattle.tm_state.proofs.launches.Launches.end.Goals.{in-Err-1, in-Ok-1}
 use Rattle.tm_state.proofs.launches.Launches.end.Goals as goal
 

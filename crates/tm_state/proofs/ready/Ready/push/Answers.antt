@@ -1,7 +1,5 @@
-use Rattle.std.proofs.Common.{◌≡◌, ◌<◌, List, [], ◌∷◌, ◌++◌, drop, length, ap, ◌∙◌, arith}
+use Rattle.std.proofs.Common.{◌<◌, [], ◌∷◌, ◌++◌, length, ap, ◌∙◌, arith}
 use Rattle.std.proofs.lemmas.List.{length-map}
-use Rattle.circular_buffer.specs.Buffer.{Buffer}
-use Rattle.tm_batch.specs.declared.message.Completion.{Completion}
 use Rattle.tm_objects.proofs.Queues.{on_ok, waiting_at}
 use Rattle.tm_state.proofs.ReadyQueues.{room_at, rooms-set, ready-set}
 use Rattle.std.specs.Prelude.{slice_index_or}

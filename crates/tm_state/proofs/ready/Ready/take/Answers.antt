@@ -1,8 +1,5 @@
-use Rattle.std.proofs.Common.{◌≡◌, ◌<◌, List, [], ◌∷◌, ◌++◌, drop, length, ap, ◌∙◌, arith}
+use Rattle.std.proofs.Common.{◌<◌, drop, length, ap, arith}
 use Rattle.std.proofs.lemmas.List.{length-map}
-use Rattle.circular_buffer.specs.Buffer.{Buffer}
-use Rattle.tm_batch.specs.declared.message.Completion.{Completion}
-use Rattle.tm_objects.proofs.Queues.{waiting_at}
 use Rattle.tm_state.proofs.ReadyQueues.{rooms-set, ready-set}
 use Rattle.tm_state.proofs.ready.Ready.take.Goals as goal
 

@@ -1,7 +1,6 @@
-use Rattle.std.proofs.Common.{◌<◌, ◌*◌, [], ◌∷◌, ◌++◌, refl, arith, length, ap, ◌∙◌}
+use Rattle.std.proofs.Common.{◌<◌, [], ◌∷◌, ◌++◌, refl, arith, ap, ◌∙◌}
 use Rattle.tm_objects.specs.Live.{total}
-use Rattle.tm_state.specs.StateView.{StateView}
-use Rattle.tm_state.proofs.BatchGrows.{grows_none, grows_one}
+use Rattle.tm_state.proofs.BatchGrows.{grows_one}
 use Rattle.tm_state.proofs.RowsKeep.{asked_as}
 use Rattle.tm_state.proofs.RowsLive.{held_at, of_live}
 use Rattle.tm_state.proofs.RowsTotal.{total_few}

@@ -1,4 +1,4 @@
-use Rattle.std.proofs.Common.{◌≡◌, ◌∙◌, refl, sym, ap, subst}
+use Rattle.std.proofs.Common.{◌≡◌, refl, ap, subst}
 use Rattle.std.specs.declared.option.Option.TheVariants.{Some}
 use Rattle.tm_latch.specs.Tickets.{first_of}
 use Rattle.tm_state.specs.StateView.{StateView}
