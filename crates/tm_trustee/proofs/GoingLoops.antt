@@ -43,7 +43,7 @@ module _ {V O R T : Type 0} where
   pub resumable :
       (kind : Kind V O R T) (number : ℕ) (held : List ℕ) (since : List (Entry V O R T)) (h : StateView V O R T) (lanes : List (Lane V O R T))
       → IsGoingOn V O R T kind number held since h lanes → IsResumable kind held since h
-  resumable kind number held since h lanes (opening, log, ups, are) = (opening, log, (are.current.represents, are.held))
+  resumable kind number held since h lanes (opening, log, ups, are) = (opening, log, (are.current.represents, are.holds))
 
   awaits_ask : (setup : Setup) (u : ℕ) (a : Awaits) → IsAskAt setup u a → (x : ℕ) × (a ≡ AskOf u x)
   awaits_ask setup u Start asks = absurd asks
@@ -65,14 +65,14 @@ module _ {V O R T : Type 0} where
     s = state_after kind opening (log ++ since)
 
     above : (i : ℕ) → opening.setup.number < number + 1 + i
-    above i = let same = are.number in omega (arith, same)
+    above i = let same = are.numbered in omega (arith, same)
 
     -- as many launches asked and were not told as replies came at least
     pub enough_askers : (i : ℕ) (lane : Lane V O R T) → slice_get lanes i ≡ Some lane → length lane.came.items ≤ length lane.askers.items
     enough_askers i lane at =
         let (up, at_up) = there_as lanes ups i lane (sym are.as_many) at in
         let u = number + 1 + i in
-        let is : IsLane kind opening (log ++ since) u up lane = are.lanes i up lane at_up at in
+        let is : IsLane kind opening (log ++ since) u up lane = are.kept i up lane at_up at in
         let asks = asks_of opening.setup u (log ++ since) in
         let due = is.due in
         let zip = zip_length (IsAsker s) lane.askers.items (pending_of kind opening u (log ++ since)) is.askers in
@@ -94,7 +94,7 @@ module _ {V O R T : Type 0} where
       asker : (a : NestedAsk O) × (rest : List (NestedAsk O)) × (pending_of kind opening u (log ++ since) ≡ a ∷ rest) × IsAsker s launch a
       asker =
           first_asker s launch mid.askers.items (pending_of kind opening u (log ++ since))
-          (subst (λ v. AllZip (IsAsker s) v (pending_of kind opening u (log ++ since))) takes.askers (are.lanes i side.0 lane side.1 at_lane).askers)
+          (subst (λ v. AllZip (IsAsker s) v (pending_of kind opening u (log ++ since))) takes.askers (are.kept i side.0 lane side.1 at_lane).askers)
 
       works : (ws : List (Work T)) × (works_at s launch.id ≡ work_of launch ∷ ws)
       works = first_is (works_at s launch.id) (work_of launch) asker.3.1
@@ -145,7 +145,7 @@ module _ {V O R T : Type 0} where
         after : Represents kind opening (log ++ (since ++ es)) new
         after =
             subst (λ v. Represents kind opening (log ++ v) new) entries_are
-            (keeps opening log (subst (λ v. MayGoOn kind held v opening log h) (sym since_is) (are.current.represents, are.held)))
+            (keeps opening log (subst (λ v. MayGoOn kind held v opening log h) (sym since_is) (are.current.represents, are.holds)))
 
         pub reply_noted : MayNote number result (slice_set lanes i mid)
         reply_noted =
@@ -173,7 +173,7 @@ module _ {V O R T : Type 0} where
       begun : Represents kind opening (log ++ (since ++ es)) new
       begun =
           subst (λ v. Represents kind opening (log ++ v) new) begun_are
-          (keeps opening log (subst (λ v. MayGoOn kind held v opening log h) (sym since_is) (are.current.represents, are.held)))
+          (keeps opening log (subst (λ v. MayGoOn kind held v opening log h) (sym since_is) (are.current.represents, are.holds)))
 
       begins : IsToldRightly opening.setup Begin l.id (work_of l) (λ v. pending_of kind opening v (log ++ since))
       begins = inl (refl, start)

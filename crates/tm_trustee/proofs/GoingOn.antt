@@ -116,7 +116,7 @@ module _ {V O R T : Type 0} where
     number_is = are.current.represents.keeps.number ∙ ap (λ (x : Setup). x.number) (states_are_sound kind opening done opens legal_now).setup
 
     run : IsRunOf opening.setup l.id l.number event es last
-    run = run_of kind opening.setup h.number held l.id l.number goes.0 l.task.task event es goes.1 last number_is are.held goes.4
+    run = run_of kind opening.setup h.number held l.id l.number goes.0 l.task.task event es goes.1 last number_is are.holds goes.4
 
     pub only_resumes : AreResumes es
     only_resumes = run_resumes opening.setup l.id l.number event es last run
@@ -152,7 +152,7 @@ module _ {V O R T : Type 0} where
     awaited_now = run_awaited kind opening opens done es legal l.id l.number event last run (work_of l) rest_works here refl rightly are.awaited
 
     above : (i : ℕ) → opening.setup.number < number + 1 + i
-    above i = let same = are.number in omega (arith, same)
+    above i = let same = are.numbered in omega (arith, same)
 
     -- no Bye was said above, as a launch goes on
     unsaid : (lane : Lane V O R T) (up : ClientView V O R T) (i : ℕ) → slice_get lanes i ≡ Some lane → slice_get ups i ≡ Some up → has_bye up.sent ≡ false
@@ -173,7 +173,7 @@ module _ {V O R T : Type 0} where
             absurd cc
 
     is_lane : (i : ℕ) (up : ClientView V O R T) (lane : Lane V O R T) → slice_get ups i ≡ Some up → slice_get lanes i ≡ Some lane → IsLane kind opening done (number + 1 + i) up lane
-    is_lane i up lane at_up at_lane = are.lanes i up lane at_up at_lane
+    is_lane i up lane at_up at_lane = are.kept i up lane at_up at_lane
 
     -- the launches that asked at a lane and are left are those of the asks that are left
     kept_now :
@@ -259,7 +259,7 @@ module _ {V O R T : Type 0} where
     -- what it did last can be noted
     may_ask : (u x : ℕ) (op : O) (task : T) (on : Ticket (Pending T)) → last ≡ Ask u x op task → (opening.setup.number < u) × (x < length (ids_above opening.setup u)) → MayNote number (Asked u x op on) mids
     may_ask u x op task on e at =
-        let same = are.number in
+        let same = are.numbered in
         let within = held_within opening opens u x at.1 in
         let sides = are.sides in
         let many = are.as_many in
@@ -289,7 +289,7 @@ module _ {V O R T : Type 0} where
           → Added i mid becomes
       asks_here u x op task i mid becomes e at names at_mid at_final (lane, to, at_lane, asks, is) =
           let on : Ticket (Pending T) = record { id = l.id; number = l.number; task = record { place = l.task.place; task = task; awaits = AskOf u x } } in
-          let same = are.number in
+          let same = are.numbered in
           let back : number + 1 + (u - (number + 1)) ≡ u = index_of u (omega (arith, same, at.0)) in
           elim (set_cases mids (u - (number + 1)) i to becomes (subst (λ v. slice_get v i ≡ Some becomes) is at_final)) [
             | inl here ↦
@@ -367,8 +367,8 @@ module _ {V O R T : Type 0} where
 
       pub are_going : AreGoing kind opening log ups number held (since ++ es) new final
       are_going = record {
-        number = are.number;
-        held = are.held;
+        numbered = are.numbered;
+        holds = are.holds;
         sides = are.sides;
         as_many = many_final ∙ as_many ∙ are.as_many;
         at = λ i lane up at_lane at_up.
@@ -376,7 +376,7 @@ module _ {V O R T : Type 0} where
             subst (λ st. IsAt st up) (sym (stage_kept i was lane at_was at_lane)) (are.at i was up at_was at_up);
         current = record { represents = after; only = both_resume since es are.current.only only_resumes };
         awaited = subst (λ x. AreAwaited kind opening x) (sym joined) awaited_now;
-        lanes = subst (λ x. AreLanes kind opening x (number + 1) ups final) (sym joined) lanes_now;
+        kept = subst (λ x. AreLanes kind opening x (number + 1) ups final) (sym joined) lanes_now;
         idle = are.idle;
         said = λ i lane at_lane ne.
             let (was, mid, other, at_was, at_mid, at_other) = between i lane at_lane in

@@ -49,14 +49,14 @@ module _ {V O R T Table Client Owner : Type 0} (theory : Theory V O R T Table Cl
       (opening : State V O R T) → IsGoing theory kind opening t
       → AreGoing kind opening (theory.trustee_view t.side).log (ups_of theory t) t.number t.held.items t.since.items t.state t.lanes.items
   going_parts opening is = record {
-    number = is.number;
-    held = is.held;
+    numbered = is.number;
+    holds = is.held;
     sides = let sides = is.sides in let many = length-map t.above.items theory.client_view in omega (arith, sides, many);
     as_many = is.above.as_many;
     at = is.above.stages;
     current = is.current;
     awaited = is.awaited;
-    lanes = is.lanes;
+    kept = is.lanes;
     idle = is.idle;
     said = is.said;
   }
@@ -86,7 +86,7 @@ module _ {V O R T Table Client Owner : Type 0} (theory : Theory V O R T Table Cl
           nested = is.nested;
           held = is.held;
           awaited = now.awaited;
-          lanes = now.lanes;
+          lanes = now.kept;
           told = told;
           idle = now.idle;
           said = now.said;

@@ -63,14 +63,14 @@ module _ {V O R T : Type 0} where
   -- what of a trustee goes on with launched work, by the log of its side and what its sides above stand for
   pub record AreGoing (kind : Kind V O R T) (opening : State V O R T) (log : List (Entry V O R T)) (ups : List (ClientView V O R T)) (number : ℕ)
       (held : List ℕ) (since : List (Entry V O R T)) (h : StateView V O R T) (lanes : List (Lane V O R T)) : Type 0 where
-    pub number : number ≡ opening.setup.number
-    pub held : AreHeld opening.setup held
+    pub numbered : number ≡ opening.setup.number
+    pub holds : AreHeld opening.setup held
     pub sides : number + 1 + length ups ≡ opening.setup.config.trustees
     pub as_many : length lanes ≡ length ups
     pub at : (i : ℕ) (lane : Lane V O R T) (up : ClientView V O R T) → slice_get lanes i ≡ Some lane → slice_get ups i ≡ Some up → IsAt lane.stage up
     pub current : IsCurrent kind opening log since h
     pub awaited : AreAwaited kind opening (log ++ since)
-    pub lanes : AreLanes kind opening (log ++ since) (number + 1) ups lanes
+    pub kept : AreLanes kind opening (log ++ since) (number + 1) ups lanes
     pub idle : AreIdle kind opening log
     pub said : AreSaid opening log lanes
 
