@@ -348,8 +348,8 @@ module _ {V O R T : Type 0} where
         let among : IsAmong new (pending_of kind opening u (log ++ es)) =
         subst (IsAmong new) (sym (at.pending ∙ ap (λ l. before ++ l) last_is)) (among_last new before) in (
           inr (
-            subst (λ y. IsWaiting kind opening (log ++ es) id y) first (u, stop.0, (refl, stop.1), (new, among, refl, sym mine))
-            ),
+              subst (λ y. IsWaiting kind opening (log ++ es) id y) first (u, stop.0, (refl, stop.1), (new, among, refl, sym mine))
+              ),
           subst (λ l. AllByRecursion (λ y. y.awaits ≡ Start) l) rest (are.behind id w ws here),
         )
 

@@ -77,9 +77,9 @@ module _ {V O R T : Type 0} where
           last = is.last;
           full = is.full;
           answers = elim is.answers [
-              | inl nothing ↦ inl (nothing.0, replies ∙ nothing.1, nothing.2)
-              | inr same ↦ inr (ap (λ l. map (λ t. t.reply) l ++ lane.came.items) replies ∙ same)
-            ];
+            | inl nothing ↦ inl (nothing.0, replies ∙ nothing.1, nothing.2)
+            | inr same ↦ inr (ap (λ l. map (λ t. t.reply) l ++ lane.came.items) replies ∙ same)
+          ];
           due = let n = ap (λ l. length l) replies in let due = is.due in omega (arith, n, due);
           tickets =
               subst (λ l. IsPrefix (map (λ t. t.ticket) l) (map (λ a. a.ticket) (asks_of opening.setup u (log ++ es)))) (sym replies)
@@ -184,9 +184,9 @@ module _ {V O R T : Type 0} where
           asks = is.asks ∙ ap (λ l. asked_by (l ++ lane.waits.items)) (sym gets.sent) ∙ ap (λ v. asked_by (new.sent ++ v.items)) (sym takes.waits);
           only = subst (λ v. AllByRecursion (AppliesAmong (ids_above opening.setup u)) v.items) (sym takes.waits) is.only;
           last = elim is.last [
-              | inl none ↦ inl (ap has_bye gets.sent ∙ none)
-              | inr ends ↦ inr (subst (λ l. EndsInBye l) (sym gets.sent) ends.0, ap (λ v. v.items) takes.waits ∙ ends.1)
-            ];
+            | inl none ↦ inl (ap has_bye gets.sent ∙ none)
+            | inr ends ↦ inr (subst (λ l. EndsInBye l) (sym gets.sent) ends.0, ap (λ v. v.items) takes.waits ∙ ends.1)
+          ];
           full = λ b out. let bad : None ≡ Some b = sym gets.out ∙ out in absurd cc;
           answers = inr now;
           due = omega (arith, few, within, count, sum, size);
@@ -213,14 +213,14 @@ module _ {V O R T : Type 0} where
         asks = is.asks ∙ ap (λ l. asked_by (l ++ lane.waits.items)) (sym pending.sent);
         only = is.only;
         last = elim is.last [
-            | inl none ↦ inl (ap has_bye pending.sent ∙ none)
-            | inr ends ↦ inr (subst (λ l. EndsInBye l) (sym pending.sent) ends.0, ends.1)
-          ];
+          | inl none ↦ inl (ap has_bye pending.sent ∙ none)
+          | inr ends ↦ inr (subst (λ l. EndsInBye l) (sym pending.sent) ends.0, ends.1)
+        ];
         full = λ b e. is.full b (out ∙ sym out_new ∙ e);
         answers = elim is.answers [
-            | inl nothing ↦ inl (pending.sent ∙ nothing.0, nothing.1, nothing.2)
-            | inr seen ↦ inr (seen ∙ ap (λ p. replied_in (answered p old.seen)) (sym pending.place) ∙ ap (λ l. replied_in (answered new.place l)) (sym pending.seen))
-          ];
+          | inl nothing ↦ inl (pending.sent ∙ nothing.0, nothing.1, nothing.2)
+          | inr seen ↦ inr (seen ∙ ap (λ p. replied_in (answered p old.seen)) (sym pending.place) ∙ ap (λ l. replied_in (answered new.place l)) (sym pending.seen))
+        ];
         due = subst (λ l. length (replies_of kind opening u log) + length lane.came.items ≤ length (asked_by l)) (sym pending.sent) is.due;
         tickets = is.tickets;
         askers = is.askers;

@@ -129,9 +129,9 @@ module _ {V O R T : Type 0} where
           ∙ ap asked_by (append_assoc up.sent lane.waits.items goes.sent) ∙ ap (λ l. asked_by (up.sent ++ l)) (sym goes.waits);
       only = subst (λ l. AllByRecursion (AppliesAmong (ids_above opening.setup u)) l) (sym goes.waits) (all-append (AppliesAmong (ids_above opening.setup u)) lane.waits.items goes.sent is.only goes.sent_among);
       last = elim is.last [
-          | inl none ↦ inl none
-          | inr ends ↦ inr (ends.0, goes.waits ∙ ap (λ l. lane.waits.items ++ l) (sent_none ends) ∙ append-nil lane.waits.items ∙ ends.1)
-        ];
+        | inl none ↦ inl none
+        | inr ends ↦ inr (ends.0, goes.waits ∙ ap (λ l. lane.waits.items ++ l) (sent_none ends) ∙ append-nil lane.waits.items ∙ ends.1)
+      ];
       full = is.full;
       answers = new_answers;
       due =

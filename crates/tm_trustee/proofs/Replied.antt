@@ -180,6 +180,7 @@ module _ {V O R T : Type 0} where
       behind_any (Release n) qs e = e
       behind_any (Reclaim n) qs e = e
       behind_any Bye qs e = absurd cc
+
       one_more : (q : Request V O R T) (xs qs : List (Request V O R T)) → has_bye (q ∷ qs) ≡ false → has_bye xs ≡ false → has_bye (q ∷ xs) ≡ false
       one_more (Apply n op) xs qs e h = h
       one_more (Entrust v) xs qs e h = h
@@ -188,6 +189,7 @@ module _ {V O R T : Type 0} where
       one_more (Release n) xs qs e h = h
       one_more (Reclaim n) xs qs e h = h
       one_more Bye xs qs e h = absurd cc
+
       more_front :
           (x q : Request V O R T) (xs qs : List (Request V O R T)) → x ≡ q → has_bye (q ∷ qs) ≡ false → (has_bye xs ≡ false) ⊎ EndsInBye xs
           → (has_bye (x ∷ xs) ≡ false) ⊎ EndsInBye (x ∷ xs)

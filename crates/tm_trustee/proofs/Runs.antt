@@ -224,7 +224,7 @@ module _ {V O R T : Type 0} where
         works_after kind n s (Resume i t e (Ask v x op task)) d legal.0 ordered ∙ resumed_there (works_at s d) i d (Ask v x op task) (λ is. ne (sym is ∙ run.0)) in
         let ordered' = after_ordered kind n s (Resume i t e (Ask v x op task)) legal.0 ordered in
         let on : (event : Event R) → IsRunOf setup id ticket event es last
-            → (works_at (state_after kind s' es) id ≡ works_resumed (works_at s id) last) × ((d : ℕ) → d ≢ id → works_at (state_after kind s' es) d ≡ works_at s d) =
+        → (works_at (state_after kind s' es) id ≡ works_resumed (works_at s id) last) × ((d : ℕ) → d ≢ id → works_at (state_after kind s' es) d ≡ works_at s d) =
         λ event more.
         let (first, others) = run_works s' setup id ticket event es last legal.1 ordered' more in (
           first ∙ ap (λ ws. works_resumed ws last) here ∙ works_twice (works_at s id) v x op task last,

@@ -225,7 +225,7 @@ module _ {V O R T Table Client Owner : Type 0} (theory : Theory V O R T Table Cl
             sides = home.1.sides;
             above = home.1.above;
             nested = home.1.nested;
-          held = home.1.held;
+            held = home.1.held;
             awaited = home.1.awaited;
             lanes = home.1.lanes;
             told = home.1.told;

@@ -53,8 +53,7 @@ module _ {V O R T : Type 0} (kind : Kind V O R T) (opening home : State V O R T)
       let replies = replies_of kind opening u done in
       let (rest, e) = replied_all (ran up.place up.seen) (answered up.place up.seen) (front_only (ran up.place up.seen) up.sent (ran_front up.out up.sent (ran up.place up.seen) good.runs) asked)
       (behind_front (ran up.place up.seen) up.sent (ran_front up.out up.sent (ran up.place up.seen) good.runs) (last_of is.last)) (seen_fits kind opening done u up lane is home good) in
-      let seen = seen_replies kind opening done u up lane is home good in
-      (
+      let seen = seen_replies kind opening done u up lane is home good in (
         map (λ r. Replied r) lane.came.items ++ rest,
         e ∙ ap (λ l. map (λ r. Replied r) l ++ rest) (sym seen)
             ∙ ap (λ l. l ++ rest) (map-append (λ (r : R). Replied {V = V} {O = O} {R = R} {T = T} r) (map (λ t. t.reply) replies) lane.came.items)
@@ -65,6 +64,7 @@ module _ {V O R T : Type 0} (kind : Kind V O R T) (opening home : State V O R T)
       twice : (xs : List (ToldReply R)) → map (λ r. Replied {V = V} {O = O} {R = R} {T = T} r) (map (λ t. t.reply) xs) ≡ map (λ t. Replied t.reply) xs
       twice [] = refl
       twice (x ∷ xs) = ap (λ l. Replied x.reply ∷ l) (twice xs)
+
       front_only : (xs ys : List (Request V O R T)) → IsPrefix xs ys → AllByRecursion IsOfTrustee ys → AllByRecursion IsOfTrustee xs
       front_only [] ys front all = tt
       front_only (x ∷ xs) [] (rest, e) all = absurd cc
@@ -72,6 +72,7 @@ module _ {V O R T : Type 0} (kind : Kind V O R T) (opening home : State V O R T)
           let same : y ≡ x = cc in
           let later : ys ≡ xs ++ rest = cc in
           (subst IsOfTrustee same all.0, front_only xs ys (rest, later) all.1)
+
       last_of : (has_bye up.sent ≡ false) ⊎ (EndsInBye up.sent × (lane.waits.items ≡ [])) → (has_bye up.sent ≡ false) ⊎ EndsInBye up.sent
       last_of (inl unsaid) = inl unsaid
       last_of (inr ends) = inr ends.0

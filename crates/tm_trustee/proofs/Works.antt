@@ -36,7 +36,6 @@ module _ {V T : Type 0} where
   goes_works p new (inr (x, is, same)) = ap works_in is ∙ ap (λ (q : V × List (Work T)). q.1) same
 
 module _ {V O R T : Type 0} where
-
   -- what an entry leaves of the launches of an id
   abbrev pub works_lived : ℕ → List (Work T) → Entry V O R T → List (Work T)
   works_lived id ws (By c k (Launch n task) (Launched ticket)) = cond (n.id == id) (ws ++ new_work c ticket task ∷ []) ws

@@ -131,11 +131,7 @@ fn step_at<S: FitsBatches, P: PairTable<S>, W: Step<S, P>>(
     requires needs { (table : P) (seat : P.ClientSide) (lane : Lane S S.Op S.Reply S.Task) → slice_get tables.old (from + i) ≡ Some table → slice_get above.old.items i ≡ Some seat → slice_get lanes.old.items i ≡ Some lane → W.Needs table seat lane }
     ensures { MovesAt P.theory W.Goes (from + i) i tables.old tables.new lanes.old.items lanes.new.items above.old.items above.new.items result }
 {
-    W::go(
-        &mut tables[from as usize + i],
-        &mut above[i],
-        &mut lanes[i],
-    )
+    W::go(&mut tables[from as usize + i], &mut above[i], &mut lanes[i])
 }
 
 /// Takes a step at each side above, in order. How many batches were moved.

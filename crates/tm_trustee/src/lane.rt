@@ -8,8 +8,8 @@ ghost use Rattle.tm_trustee.specs.declared.lane.Lane.{Lane};
 ghost use Rattle.std.specs.declared.option.Option.TheVariants.{Some};
 
 use crate::stage::Stage;
-use std::alloc::{AllocError, Global};
 use circular_buffer::HeapCircularBuffer;
+use std::alloc::{AllocError, Global};
 use tm_batch::{Answer, AnswerBatch, Batch, FitsAnswers, MOST_REQUESTS, Name, Request};
 use tm_seq::Entrusted;
 use tm_state::Launch;
@@ -30,11 +30,7 @@ pub(crate) struct Lane<S: Entrusted> {
 }
 
 /// The names of those objects that are of trustee `number`, in order.
-fn names_at(
-    alloc: Global,
-    number: u32,
-    nested: &[(u32, Name)],
-) -> Result<Vec<Name>, AllocError>
+fn names_at(alloc: Global, number: u32, nested: &[(u32, Name)]) -> Result<Vec<Name>, AllocError>
     ensures { IfOk result (λ names. names.items ≡ map (λ n. n.1) (filter (λ n. n.0 == number) nested.now)) }
 {
     nested

@@ -13,8 +13,7 @@ pub publish-requires : goal.publish-requires
 publish-requires g c =
     let theory = g.P.PairTable.theory in
     let view = theory.client_view c.args.seat.now in
-    let some : c.args.lane.now.waits.items ≢ [] = some_of c.args.lane.now.waits.items (sym c.if-is_empty.false ∙ c.is_empty.ensures) in
-    (
+    let some : c.args.lane.now.waits.items ≢ [] = some_of c.args.lane.now.waits.items (sym c.if-is_empty.false ∙ c.is_empty.ensures) in (
       g.met.S.FitsBatches.fits_batch,
       (
         grind (arith, common_steps, g.met.S.FitsBatches.fits_held),
