@@ -1,6 +1,7 @@
 use Rattle.std.proofs.Common.{◌+◌, refl, arith}
 use Rattle.tm_trustee.proofs.TurningReady as turning
-use Rattle.tm_trustee.proofs.trustee.Trustee.look_above.Goals as goal
+use Rattle.tm_trustee.proofs.TurningAll as all
+use Rattle.tm_trustee.proofs.trustee.Trustee.exchange_above.Goals as goal
 
 pub overflow_add-self : goal.overflow_add-self
 overflow_add-self g c =
@@ -11,6 +12,7 @@ pub go_above-requires : goal.go_above-requires
 go_above-requires g c = record {
   above = (c.args.self.now.clients + c.args.self.now.number, turning.is_above g.P.PairTable.theory g.S.Entrusted.kind c.args.tables.now c.args.self.now c.requires);
   among = c.requires.above;
+  needs = all.needs_exchange g.P.PairTable.theory g.S.Entrusted.kind g.met.P.PairTable.laws c.args.tables.now c.args.self.now c.requires;
 }
 
 pub returns-clause-ready : goal.returns-clause-ready
@@ -18,17 +20,21 @@ returns-clause-ready g c =
     let t = c.args.self.now in
     let place = t.clients + t.number in
     let is = turning.is_above g.P.PairTable.theory g.S.Entrusted.kind c.args.tables.now t c.requires in
-    turning.above_ready g.P.PairTable.theory g.S.Entrusted.kind c.args.tables.now c.go_above.new.tables t
-    (record t { above = c.go_above.new.above; stages = c.go_above.new.stages }) refl c.requires (c.go_above.ensures.above place is) c.go_above.ensures.among
-    (c.go_above.ensures.tables place is)
+    let go = c.go_above.ensures in
+    all.exchanged_midway g.P.PairTable.theory g.S.Entrusted.kind g.met.P.PairTable.laws c.args.tables.now c.go_above.new.tables t
+    (record t { above = c.go_above.new.above; lanes = c.go_above.new.lanes }) c.requires go.goes go.as_many go.lanes go.among (go.above place is) (go.tables place is) refl
+
+pub returns-clause-exchanges : goal.returns-clause-exchanges
+returns-clause-exchanges g c = λ was here.
+    let go = c.go_above.ensures in
+    let t = c.args.self.now in
+    all.exchanged_all g.P.PairTable.theory g.S.Entrusted.kind g.met.P.PairTable.laws c.args.tables.now c.go_above.new.tables t
+    (record t { above = c.go_above.new.above; lanes = c.go_above.new.lanes }) c.requires go.goes go.as_many go.lanes go.among was here
 
 pub returns-clause-tables : goal.returns-clause-tables
 returns-clause-tables g c =
     let t = c.args.self.now in
     c.go_above.ensures.tables (t.clients + t.number) (turning.is_above g.P.PairTable.theory g.S.Entrusted.kind c.args.tables.now t c.requires)
-
-pub returns-clause-looks : goal.returns-clause-looks
-returns-clause-looks g c = c.go_above.ensures.goes
 
 pub returns-clause-as_many : goal.returns-clause-as_many
 returns-clause-as_many g c = c.go_above.ensures.as_many
