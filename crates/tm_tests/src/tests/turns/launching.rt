@@ -13,11 +13,8 @@ use tm_pair::PairTable;
 use tm_seq::Counter;
 use tm_trustee::Served;
 
-/// Asks that are refused at once: of its own trustee, of a lesser one, of an object that is not held there, and of a
-/// trustee that is not there.
-const REFUSED: [(u32, u32); 4] = [(1, 0), (0, 0), (2, 1), (3, 0)];
-
-/// A launch that asks so ends as soon as it begins, by two resumes. Its completion comes with the next answers.
+/// A launch that asks what is not above ends as soon as it begins, by two resumes. Its completion comes with the next
+/// answers.
 fn is_refused<P: PairTable<Counter>>(
     rt: &impl Abort,
     play: &mut Play<P>,
@@ -64,11 +61,11 @@ fn asks_above<P: PairTable<Counter>>(rt: &impl Abort, play: &mut Play<P>)
 fn a_launch_is_told_what_it_asks_above(rt: HostRuntime) -> Result<(), Fail> {
     let mut play = start(rt.alloc())?;
     asks_above(&rt, &mut play);
-    let mut ticket = 2;
-    for (trustee, index) in REFUSED {
-        is_refused(&rt, &mut play, ticket, trustee, index);
-        ticket += 1;
-    }
+    // Its own trustee, a lesser one, an object that is not held there, and a trustee that is not there.
+    is_refused(&rt, &mut play, 2, 1, 0);
+    is_refused(&rt, &mut play, 3, 0, 0);
+    is_refused(&rt, &mut play, 4, 2, 1);
+    is_refused(&rt, &mut play, 5, 3, 0);
     Ok(())
 }
 

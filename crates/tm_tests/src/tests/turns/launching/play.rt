@@ -1,5 +1,5 @@
 //! A client that launches at the middle trustee, with this and the greatest one, and the calls of the tests at them.
-ghost use Rattle.std.specs.Prelude.{◌≡◌, ℕ, ◌≤◌, [], length, IfOk};
+ghost use Rattle.std.specs.Prelude.{◌≡◌, ◌≤◌, length, IfOk};
 ghost use Rattle.std.specs.List.{AllByRecursion};
 ghost use Rattle.tm_seq.specs.Counting.{counter_kind};
 ghost use Rattle.tm_pair.specs.Plain.{plain_theory};
@@ -7,7 +7,6 @@ ghost use Rattle.tm_tests.specs.Launching.{IsWork, IsPlayed};
 
 use super::said::{Said, shows};
 use super::start::{greatest, middle, table};
-use crate::tests::turns::turning::turn;
 use std::alloc::{AllocError, Global};
 use tm_base::FreeGate;
 use tm_batch::{Batch, Name, Request};
@@ -101,12 +100,20 @@ impl<P: PairTable<Counter>> Play<P> {
         self.tables[1].publish(&mut self.client, batch(works)).is_ok()
     }
 
+    /// The client looks for answers.
+    fn collect(&mut self) -> Collected<Counter>
+        requires { IsPlayed P.theory self.old.tables.items self.old.middle self.old.greatest self.old.client self.old.asked }
+        ensures { IsPlayed P.theory self.new.tables.items self.new.middle self.new.greatest self.new.client self.new.asked }
+    {
+        self.tables[1].collect(&mut self.client)
+    }
+
     /// Whether the client finds answers, which are these, with these completions, by their tickets.
     pub(super) fn finds(&mut self, answers: &[Said], ended: &[(u64, Said)]) -> bool
         requires { IsPlayed P.theory self.old.tables.items self.old.middle self.old.greatest self.old.client self.old.asked }
         ensures { IsPlayed P.theory self.new.tables.items self.new.middle self.new.greatest self.new.client self.new.asked }
     {
-        match self.tables[1].collect(&mut self.client) {
+        match self.collect() {
             Collected::Answers(came) => shows(&came, answers, ended),
             _ => false,
         }
@@ -117,7 +124,7 @@ impl<P: PairTable<Counter>> Play<P> {
         requires { IsPlayed P.theory self.old.tables.items self.old.middle self.old.greatest self.old.client self.old.asked }
         ensures { IsPlayed P.theory self.new.tables.items self.new.middle self.new.greatest self.new.client self.new.asked }
     {
-        turn(&mut self.middle, &mut self.tables, &FreeGate)
+        self.middle.serve_turn(&mut self.tables, &FreeGate)
     }
 
     /// A turn of the greatest one.
@@ -125,6 +132,6 @@ impl<P: PairTable<Counter>> Play<P> {
         requires { IsPlayed P.theory self.old.tables.items self.old.middle self.old.greatest self.old.client self.old.asked }
         ensures { IsPlayed P.theory self.new.tables.items self.new.middle self.new.greatest self.new.client self.new.asked }
     {
-        turn(&mut self.greatest, &mut self.tables, &FreeGate)
+        self.greatest.serve_turn(&mut self.tables, &FreeGate)
     }
 }
