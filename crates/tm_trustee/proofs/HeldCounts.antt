@@ -4,7 +4,7 @@ use Rattle.std.specs.Prelude.{slice_get, nat_lt}
 use Rattle.std.specs.List.{range_with_len}
 use Rattle.std.specs.declared.option.Option.TheVariants.{Some}
 use Rattle.std.proofs.lemmas.Bool.{cases_lt, lt-ltb, le-ltb}
-use Rattle.std.proofs.lemmas.List.{length-map}
+use Rattle.std.proofs.lemmas.List.{length-map, get_or_past}
 use Rattle.std.proofs.lemmas.List.FromFn.{get_or-map-range_with_len, length-map-range_with_len}
 use Rattle.tm_batch.specs.declared.config.Config.{Config}
 use Rattle.tm_batch.specs.declared.config.First.{First}
@@ -30,11 +30,6 @@ module _ {V : Type 0} where
         | false ↦ omega (arith, more)
       ]
 
-past_end : {X : Type 0} (xs : List X) (i : ℕ) (d : X) → length xs ≤ i → slice_index_or xs i d ≡ d
-past_end [] i d le = refl
-past_end (x ∷ xs) zero d le = absurd (omega (arith, le))
-past_end (x ∷ xs) (suc i) d le = past_end xs i d (omega (arith, le))
-
 module _ {V O R T : Type 0} (s : State V O R T) (number : ℕ) (config : Config) (whole first : List (First V)) (nested : List (ℕ × Name)) (seats : ℕ)
     (may : MayBegin s number config whole first nested seats) where
   above_of : (u : ℕ) → u < config.trustees → ids_above s.setup u ≡ cond (nat_lt number u) (ids_at u (config.clients + number) whole) []
@@ -45,7 +40,7 @@ module _ {V O R T : Type 0} (s : State V O R T) (number : ℕ) (config : Config)
   none_past : (u : ℕ) → config.trustees ≤ u → ids_above s.setup u ≡ []
   none_past u past =
       let size : length s.setup.above ≡ config.trustees = ap (λ (x : State V O R T). length x.setup.above) may.opening ∙ length-map-range_with_len _ 0 config.trustees in
-      past_end s.setup.above u [] (omega (arith, size, past))
+      get_or_past s.setup.above u [] (omega (arith, size, past))
 
   few_above : (u : ℕ) → length (ids_above s.setup u) < 2 ^ 32
   few_above u =

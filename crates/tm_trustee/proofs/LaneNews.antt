@@ -3,7 +3,8 @@ use Rattle.std.proofs.Common.{◌≡◌, ◌≢◌, ℕ, zero, suc, ◌+◌, ◌
 use Rattle.std.specs.Prelude.{slice_get}
 use Rattle.std.specs.declared.option.Option.TheVariants.{None, Some}
 use Rattle.std.proofs.lemmas.Bool.{cases_lt, lt-ltb, le-ltb}
-use Rattle.std.proofs.lemmas.Option.{slice_get_within, slice_get-get_or}
+use Rattle.std.proofs.lemmas.List.{get_or_past}
+use Rattle.std.proofs.lemmas.Option.{slice_get_past, slice_get-get_or}
 use Rattle.tm_batch.specs.declared.message.Name.{Name}
 use Rattle.tm_trustee.specs.Lanes.{IsNewLane, AreNewLanes, AreCounted, names_in, names_held}
 use Rattle.tm_trustee.specs.declared.lane.Lane.{Lane}
@@ -13,16 +14,6 @@ last_of [] x y zero e = let is : y ≡ x = cc in inr (refl, is)
 last_of [] x y (suc k) e = absurd cc
 last_of (z ∷ xs) x y zero e = inl e
 last_of (z ∷ xs) x y (suc k) e = elim (last_of xs x y k e) [ inl h ↦ inl h | inr h ↦ inr (ap (λ n. suc n) h.0, h.1) ]
-
-get_past : {X : Type 0} (xs : List X) (k : ℕ) → length xs ≤ k → slice_get xs k ≡ None
-get_past [] k le = refl
-get_past (x ∷ xs) zero le = absurd (omega (arith, le))
-get_past (x ∷ xs) (suc k) le = get_past xs k (omega (arith, le))
-
-index_past : (xs : List ℕ) (k : ℕ) → length xs ≤ k → slice_index_or xs k 0 ≡ 0
-index_past [] k le = refl
-index_past (x ∷ xs) zero le = absurd (omega (arith, le))
-index_past (x ∷ xs) (suc k) le = index_past xs k (omega (arith, le))
 
 module _ {V O R T : Type 0} (u room : ℕ) (nested : List (ℕ × Name)) where
   pub no_lanes : (lanes : List (Lane V O R T)) → lanes ≡ [] → AreNewLanes u room nested 0 lanes
@@ -79,11 +70,11 @@ module _ {V O R T : Type 0} (number : ℕ) (lanes : List (Lane V O R T)) where
         | inl within ↦ are.each u (slice_index_or held u 0) (slice_get-get_or held u 0 within)
         | inr past ↦
             let many = are.as_many in
-            let none : slice_get lanes (u - (number + 1)) ≡ None = get_past lanes (u - (number + 1)) (omega (arith, past, many)) in
+            let none : slice_get lanes (u - (number + 1)) ≡ None = slice_get_past lanes (u - (number + 1)) (omega (arith, past, many)) in
             let lt : number < u = omega (arith, past, many) in
-            index_past held u past ∙ sym (ap (λ b. cond b (names_in (slice_get lanes (u - (number + 1)))) 0) (lt-ltb number u lt) ∙ ap names_in none)
+            get_or_past held u 0 past ∙ sym (ap (λ b. cond b (names_in (slice_get lanes (u - (number + 1)))) 0) (lt-ltb number u lt) ∙ ap names_in none)
       ]
 
   pub count_past : (u : ℕ) → number < u → length lanes ≤ u - (number + 1) → names_held number lanes u ≡ 0
   count_past u lt past =
-      ap (λ b. cond b (names_in (slice_get lanes (u - (number + 1)))) 0) (lt-ltb number u lt) ∙ ap names_in (get_past lanes (u - (number + 1)) past)
+      ap (λ b. cond b (names_in (slice_get lanes (u - (number + 1)))) 0) (lt-ltb number u lt) ∙ ap names_in (slice_get_past lanes (u - (number + 1)) past)

@@ -6,6 +6,7 @@ use Rattle.std.specs.List.{AllByRecursion, AllZip, IsDistinct, list_any}
 use Rattle.std.specs.declared.option.Option.TheVariants.{Some}
 use Rattle.std.proofs.lemmas.Bool.{cases_eq}
 use Rattle.std.proofs.lemmas.List.{length-map}
+use Rattle.std.proofs.lemmas.Option.{get_or_from_slice_get}
 use Rattle.std.proofs.lemmas.Map.Made.{length-le_from_is_member}
 use Rattle.std.proofs.Common.{eq-eqb, ne_eqb}
 use Rattle.tm_batch.specs.declared.message.Name.{Name}
@@ -43,11 +44,6 @@ module _ {X Y : Type 0} (P : X → Y → Type 0) where
   zip_kept Q C on (x ∷ xs) (y ∷ ys) zip all = (on x y all.0 zip.0, zip_kept Q C on xs ys zip.1 all.1)
 
 module _ {X : Type 0} where
-  index_of_get : (xs : List X) (k : ℕ) (x d : X) → slice_get xs k ≡ Some x → slice_index_or xs k d ≡ x
-  index_of_get [] k x d e = absurd cc
-  index_of_get (y ∷ xs) zero x d e = let is : y ≡ x = cc in is
-  index_of_get (y ∷ xs) (suc k) x d e = index_of_get xs k x d e
-
   among_at : (xs : List X) (k : ℕ) (x : X) → slice_get xs k ≡ Some x → IsAmong x xs
   among_at [] k x e = absurd cc
   among_at (y ∷ xs) zero x e = let is : y ≡ x = cc in inl is
@@ -127,7 +123,7 @@ module _ {V O R T : Type 0} where
   adds_one ids s' asked mid becomes by ticket x op launch one names asks is =
       let (name, at, waits) = asks.asks in
       let there : slice_get ids x ≡ Some name.id = subst (λ l. slice_get l x ≡ Some name.id) names (mapped (λ (n : Name). n.id) mid.names.items x name at) in
-      let id : slice_index_or ids x 0 ≡ name.id = index_of_get ids x name.id 0 there in
+      let id : slice_index_or ids x 0 ≡ name.id = get_or_from_slice_get ids x name.id 0 there in
       subst (λ l. Adds ids s' l mid becomes) (sym one)
       (record {
         stage = asks.stage;
