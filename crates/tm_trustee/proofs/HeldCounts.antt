@@ -30,7 +30,7 @@ module _ {V : Type 0} where
         | false ↦ omega (arith, more)
       ]
 
-past_end : {X : Type 0} (xs : List X) (i : ℕ) (d : X) → length xs ≤ i → slice_index_or xs i d ≡ d
+pub past_end : {X : Type 0} (xs : List X) (i : ℕ) (d : X) → length xs ≤ i → slice_index_or xs i d ≡ d
 past_end [] i d le = refl
 past_end (x ∷ xs) zero d le = absurd (omega (arith, le))
 past_end (x ∷ xs) (suc i) d le = past_end xs i d (omega (arith, le))
