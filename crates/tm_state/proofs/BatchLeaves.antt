@@ -1,9 +1,10 @@
 -- Answers leave: the gifts that are taken one by one, and the log with the entry by which they left.
-use Rattle.std.proofs.Common.{◌≡◌, ℕ, ◌+◌, ◌-◌, ◌^◌, ◌<◌, ◌≤◌, zero, suc, min, List, [], ◌∷◌, ◌++◌, length, take, drop, map, slice_index_or, slice_set, refl, sym, ◌∙◌, ap, subst, arith, length-append, add-one, get_or-set_same}
+use Rattle.std.proofs.Common.{◌≡◌, ℕ, ◌+◌, ◌-◌, ◌^◌, ◌<◌, ◌≤◌, zero, suc, min, List, [], ◌∷◌, ◌++◌, length, take, drop, map, slice_index_or, slice_set, inl, inr, refl, sym, ◌∙◌, ap, subst, arith, length-append, add-one, get_or-set_same}
 use Rattle.std.specs.Prelude.{slice_get}
 use Rattle.std.specs.declared.option.Option.TheVariants.{None, Some}
 use Rattle.std.proofs.Math.ListN.{get_or-map}
-use Rattle.std.proofs.lemmas.List.{length-map, set-set, drop-drop}
+use Rattle.std.proofs.lemmas.Bool.{cases_lt}
+use Rattle.std.proofs.lemmas.List.{length-map, set-set, drop-drop, take_all, drop_all}
 use Rattle.tm_seq.specs.Kind.{Kind}
 use Rattle.tm_batch.specs.declared.message.Name.{Name}
 use Rattle.tm_batch.specs.declared.message.AnswerBatch.{AnswerBatch}
@@ -37,6 +38,21 @@ module _ {X : Type 0} where
 
   drop_more : (n : ℕ) (xs : List X) → drop 1 (drop n xs) ≡ drop (n + 1) xs
   drop_more n xs = drop-drop 1 n xs ∙ ap (λ k. drop k xs) (omega arith)
+
+  -- all of them, or so many
+  pub take_least : (n : ℕ) (xs : List X) → take (min (length xs) n) xs ≡ take n xs
+  take_least n xs =
+      elim (cases_lt n (length xs)) [
+        | inl lt ↦ ap (λ k. take k xs) (omega (arith, lt))
+        | inr le ↦ take_all (min (length xs) n) xs (omega (arith, le)) ∙ sym (take_all n xs le)
+      ]
+
+  pub drop_least : (n : ℕ) (xs : List X) → drop (min (length xs) n) xs ≡ drop n xs
+  drop_least n xs =
+      elim (cases_lt n (length xs)) [
+        | inl lt ↦ ap (λ k. drop k xs) (omega (arith, lt))
+        | inr le ↦ drop_all (min (length xs) n) xs (omega (arith, le)) ∙ sym (drop_all n xs le)
+      ]
 
   module _ (lists : List (List X)) (c n : ℕ) (now : List (List X)) (lt : c < length lists) (is : now ≡ slice_set lists c (drop n (slice_index_or lists c []))) where
     left_at : slice_index_or now c [] ≡ drop n (slice_index_or lists c [])

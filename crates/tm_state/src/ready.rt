@@ -51,6 +51,14 @@ impl<S: Entrusted> Ready<S> {
         let _ = self.queues[place as usize].try_push_back(completion);
     }
 
+    /// How many completions are ready for a place.
+    pub(crate) fn count(&self, place: u32) -> usize
+        requires { place < length self.now }
+        ensures { result ≡ length (slice_index_or self.now place []) }
+    {
+        self.queues[place as usize].len()
+    }
+
     /// Takes the completion that waited longest for a place, if one does.
     pub(crate) fn take(&mut self, place: u32) -> Option<Completion<S>>
         requires { place < length self.old }

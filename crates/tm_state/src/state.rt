@@ -241,7 +241,7 @@ fn take_ready<S: FitsAnswers>(ready: &mut Ready<S>, place: u32, answers: &mut An
     ensures completions { answers.new.completions.items ≡ take MOST_COMPLETIONS (slice_index_or ready.old place []) }
     ensures taken { ready.new ≡ slice_set ready.old place (drop MOST_COMPLETIONS (slice_index_or ready.old place [])) }
 {
-    for _ in 0..MOST_COMPLETIONS {
+    for _ in 0..ready.count(place).min(MOST_COMPLETIONS) {
         if let Some(completion) = ready.take(place) {
             answers.completions.push(completion);
         }

@@ -33,7 +33,7 @@ use Rattle.tm_trustee.specs.declared.lane.Lane.{Lane}
 use Rattle.tm_trustee.proofs.Awaited.{IsToldRightly, begin_tells, reply_tells}
 use Rattle.tm_trustee.proofs.Bridging.{works_first}
 use Rattle.tm_trustee.proofs.Elements.{element_at, same_element, set_cases, set_here, set_other, there_as}
-use Rattle.tm_trustee.proofs.GoingOn.{may_note, are_going, only_resumes}
+use Rattle.tm_trustee.proofs.GoingOn.{noted_many, may_note, are_going, only_resumes}
 use Rattle.tm_trustee.proofs.LaneSteps.{Took, took_none, took_one, zip_length}
 use Rattle.tm_trustee.proofs.Replied.{asked_by-append}
 use Rattle.tm_trustee.proofs.Resuming.{both_resume}
@@ -195,24 +195,23 @@ module _ {V O R T : Type 0} where
           (are_going kind opening log since es ups number held h new lanes lanes l Begin result are is_first goes begun begins refl took_nothing final notes)
 
   -- what was made and then made is made
-  pub made_none : (made : Made V O R T) → made.count ≤ 2 ^ 64 - 1 → MadeMore made made
-  made_none made few = ([], tt, record { entries = sym (append-nil made.entries.items); count = omega (arith, few) })
+  pub made_none : (made : Made V O R T) → MadeMore made made
+  made_none made = ([], tt, sym (append-nil made.entries.items), λ few. omega (arith, few))
 
-  pub made_on : (a b c : Made V O R T) → MadeMore a b → (es : List (Entry V O R T)) → AreResumes es → Makes es b c → MadeMore a c
-  made_on a b c (front, only, makes) es more then =
-      let size = length-append front es in
-      let first = makes.count in
-      let last = then.count in (
-        front ++ es,
-        both_resume front es only more,
-        record {
-          entries = then.entries ∙ ap (λ v. v ++ es) makes.entries ∙ append_assoc a.entries.items front es;
-          count = omega (arith, size, first, last);
-        },
-      )
+  pub made_one : (old new : Made V O R T) (es : List (Entry V O R T)) → AreResumes es → Makes es old new → MadeMore old new
+  made_one old new es only makes = (es, only, makes.entries, λ few. makes.count)
 
   pub made_twice : (a b c : Made V O R T) → MadeMore a b → MadeMore b c → MadeMore a c
-  made_twice a b c first (es, only, makes) = made_on a b c first es only makes
+  made_twice a b c (front, first, entries, counts) (es, only, more, then) = (
+    front ++ es,
+    both_resume front es first only,
+    more ∙ ap (λ v. v ++ es) entries ∙ append_assoc a.entries.items front es,
+    λ few.
+        let size = length-append front es in
+        let mid = counts few in
+        let last = then (omega (arith, mid)) in
+        omega (arith, size, mid, last),
+  )
 
   -- how many replies came at a lane, where there is one
   abbrev pub came_in : Option (Lane V O R T) → ℕ
@@ -230,10 +229,6 @@ module _ {V O R T : Type 0} where
             (was, subst (λ n. slice_get lanes n ≡ Some was) (sym here.0) at_was, ap (λ v. v.came) here.1 ∙ asks.came)
         | inr other ↦ (lane, other.1, refl)
       ]
-
-  pub noted_many : (number : ℕ) (result : Resumed V O R T) (lanes final : List (Lane V O R T)) → Notes number result lanes final → length final ≡ length lanes
-  noted_many number Ended lanes final same = ap (λ v. length v) same
-  noted_many number (Asked u x op on) lanes final (was, to, at, asks, is) = ap (λ v. length v) is ∙ length-set lanes (u - (number + 1)) to
 
   pub noted_told : (number : ℕ) (result : Resumed V O R T) (lanes final : List (Lane V O R T)) → Notes number result lanes final → AreTold lanes → AreTold final
   noted_told number result lanes final notes told k lane at =

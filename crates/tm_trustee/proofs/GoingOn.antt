@@ -4,7 +4,7 @@ use Rattle.std.specs.Prelude.{slice_get, slice_set, ◌&&◌, nat_lt, cond}
 use Rattle.std.specs.List.{AllByRecursion, AllZip}
 use Rattle.std.specs.declared.option.Option.TheVariants.{Some}
 use Rattle.std.proofs.lemmas.Bool.{cases_eq, cases_lt}
-use Rattle.std.proofs.lemmas.List.{length-map}
+use Rattle.std.proofs.lemmas.List.{length-map, get_or_past}
 use Rattle.std.proofs.lemmas.List.FromFn.{length-map-range_with_len}
 use Rattle.std.proofs.lemmas.Option.{slice_get_within}
 use Rattle.tm_seq.specs.Kind.{Kind}
@@ -51,11 +51,6 @@ use Rattle.tm_trustee.proofs.Replied.{asked_by-append}
 use Rattle.tm_trustee.proofs.Resuming.{same_ran, both_resume}
 use Rattle.tm_trustee.proofs.Runs.{IsRunOf, run_resumes}
 
-past_end : {X : Type 0} (xs : List X) (i : ℕ) (d : X) → length xs ≤ i → slice_index_or xs i d ≡ d
-past_end [] i d le = refl
-past_end (x ∷ xs) zero d le = absurd (omega (arith, le))
-past_end (x ∷ xs) (suc i) d le = past_end xs i d (omega (arith, le))
-
 no_less : (xs : List ℕ) (x : ℕ) → xs ≡ [] → x < length xs → ⊥
 no_less xs x none lt = let zero = ap (λ l. length l) none in omega (arith, zero, lt)
 
@@ -69,7 +64,7 @@ module _ {V O R T : Type 0} where
             let config_is : opening.setup.config ≡ config = ap (λ (s : State V O R T). s.setup.config) is in
             let size : length opening.setup.above ≡ config.trustees = ap (λ (s : State V O R T). length s.setup.above) is ∙ length-map-range_with_len _ 0 config.trustees in
             let count = ap (λ c. c.trustees) config_is in
-            absurd (no_less (ids_above opening.setup u) x (past_end opening.setup.above u [] (omega (arith, past, size, count))) some)
+            absurd (no_less (ids_above opening.setup u) x (get_or_past opening.setup.above u [] (omega (arith, past, size, count))) some)
       ]
 
   -- as many requests as what they ask, where all are applies
@@ -77,6 +72,11 @@ module _ {V O R T : Type 0} where
   as_many_asked ids [] all = refl
   as_many_asked ids (Apply n op ∷ qs) all = let rest = as_many_asked ids qs all.1 in omega (arith, rest)
   as_many_asked ids (q ∷ qs) all = absurd all.0
+
+  -- noting adds no lane
+  pub noted_many : (number : ℕ) (result : Resumed V O R T) (lanes final : List (Lane V O R T)) → Notes number result lanes final → length final ≡ length lanes
+  noted_many number Ended lanes final same = ap (λ v. length v) same
+  noted_many number (Asked u x op on) lanes final (was, to, at, asks, is) = ap (λ v. length v) is ∙ length-set lanes (u - (number + 1)) to
 
   module _ (kind : Kind V O R T) (opening : State V O R T) (log since es : List (Entry V O R T)) (ups : List (ClientView V O R T)) (number : ℕ) (held : List ℕ)
       (h new : StateView V O R T) (lanes mids : List (Lane V O R T)) (l : Ticket (Pending T)) (event : Event R) (result : Resumed V O R T)
@@ -276,7 +276,9 @@ module _ {V O R T : Type 0} where
       where
         by : (next : Next O T R) → last ≡ next → Settles l.id l.number l.task.place next result h.launched new.launched h.ready new.ready → MayNote number result mids
         by (Done r) e settles = subst (λ x. MayNote number x mids) (sym settles.0) tt
-        by (Ask u x op task) e settles = subst (λ y. MayNote number y mids) (sym settles.0) (may_ask u x op task _ e (subst (IsStop opening.setup) e stop))
+        by (Ask u x op task) e settles =
+            let on : Ticket (Pending T) = record { id = l.id; number = l.number; task = record { place = l.task.place; task = task; awaits = AskOf u x } } in
+            subst (λ y. MayNote number y mids) (sym settles.0) (may_ask u x op task on e (subst (IsStop opening.setup) e stop))
 
     module _ (final : List (Lane V O R T)) (notes : Notes number result mids final) where
       abbrev Added : ℕ → Lane V O R T → Lane V O R T → Type 0
@@ -325,11 +327,7 @@ module _ {V O R T : Type 0} where
               asks_here u x op task i mid becomes e (subst (IsStop opening.setup) e stop) names at_mid at_final (subst (λ y. Notes number y mids final) settles.0 notes)
 
       many_final : length final ≡ length mids
-      many_final = by result notes
-        where
-          by : (r : Resumed V O R T) → Notes number r mids final → length final ≡ length mids
-          by Ended same = ap (λ v. length v) same
-          by (Asked u x op on) (lane, to, at, asks, is) = ap (λ v. length v) is ∙ length-set mids (u - (number + 1)) to
+      many_final = noted_many number result mids final notes
 
       -- a lane before it, between, and after it
       between :
@@ -343,7 +341,7 @@ module _ {V O R T : Type 0} where
 
       both :
           (i : ℕ) (up : ClientView V O R T) (lane mid becomes : Lane V O R T) → slice_get ups i ≡ Some up → slice_get lanes i ≡ Some lane → slice_get mids i ≡ Some mid
-          → slice_get final i ≡ Some becomes → LaneGoes (ids_above opening.setup (number + 1 + i)) s' (told (number + 1 + i)) (asked (number + 1 + i)) lane becomes
+          → slice_get final i ≡ Some becomes → LaneGoes (ids_above opening.setup (number + 1 + i)) s' (told (number + 1 + i)) (asked (number + 1 + i)) mid.askers.items lane becomes
       both i up lane mid becomes at_up at_lane at_mid at_final =
           let t = took i lane mid at_lane at_mid rest_works in
           let names = ap (λ v. map (λ n. n.id) v.items) t.names ∙ (is_lane i up lane at_up at_lane).names in
@@ -361,7 +359,7 @@ module _ {V O R T : Type 0} where
           let (lane, mid, other, at_lane, at_mid, at_other) = between i becomes at_final in
           let (rest, at) = rest_at u lt in
           let goes_there = both i up lane mid becomes at_up at_lane at_mid at_final in
-          lane_goes kind opening done es u up lane becomes (told u) (asked u) rest (is_lane i up lane at_up at_lane) goes_there
+          lane_goes kind opening done es u up lane becomes (told u) (asked u) rest mid.askers.items (is_lane i up lane at_up at_lane) goes_there
           (asks_now u lt) (replies_now u) at.pending (at.gone, at.split, at.tickets)
           (still i up lane mid at_up at_lane at_mid rest at) (λ some. unsaid lane up i at_lane at_up)
 

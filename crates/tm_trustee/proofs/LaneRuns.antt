@@ -47,13 +47,13 @@ module _ {V O R T : Type 0} where
   pub bye_ends : (sent : List (Request V O R T)) → EndsInBye sent → has_bye sent ≡ false → ⊥
   bye_ends sent (qs, e, none) unsaid = let said : has_bye (qs ++ Bye ∷ []) ≡ true = bye_at qs [] in let both : true ≡ false = sym said ∙ ap has_bye (sym e) ∙ unsaid in absurd cc
 
-  -- what a run did to a lane of trustee u: some replies were told to the first askers, and what was asked is last
-  pub record LaneGoes (ids : List ℕ) (s' : State V O R T) (told : List (ToldReply R)) (asked : List (NestedAsk O)) (lane becomes : Lane V O R T) : Type 0 where
+  -- what a run did to a lane of trustee u: some replies were told to the first askers, so that the others are kept, and what was asked is last
+  pub record LaneGoes (ids : List ℕ) (s' : State V O R T) (told : List (ToldReply R)) (asked : List (NestedAsk O)) (kept : List (Ticket (Pending T)))
+      (lane becomes : Lane V O R T) : Type 0 where
     pub stage : becomes.stage ≡ lane.stage
     pub names : becomes.names ≡ lane.names
     pub came : lane.came.items ≡ map (λ t. t.reply) told ++ becomes.came.items
     pub came_room : becomes.came.capacity ≡ lane.came.capacity
-    pub kept : List (Ticket (Pending T))
     pub added : List (Ticket (Pending T))
     pub gone : (first : List (Ticket (Pending T))) × (lane.askers.items ≡ first ++ kept) × (length first ≡ length told)
     pub askers : becomes.askers.items ≡ kept ++ added
@@ -66,14 +66,14 @@ module _ {V O R T : Type 0} where
     pub sent_among : AllByRecursion (AppliesAmong ids) sent
 
   module _ (kind : Kind V O R T) (opening : State V O R T) (log es : List (Entry V O R T)) (u : ℕ) (up : ClientView V O R T) (lane becomes : Lane V O R T)
-      (told : List (ToldReply R)) (asked rest : List (NestedAsk O))
+      (told : List (ToldReply R)) (asked rest : List (NestedAsk O)) (kept : List (Ticket (Pending T)))
       (is : IsLane kind opening log u up lane)
-      (goes : LaneGoes (ids_above opening.setup u) (state_after kind opening (log ++ es)) told asked lane becomes)
+      (goes : LaneGoes (ids_above opening.setup u) (state_after kind opening (log ++ es)) told asked kept lane becomes)
       (asks_are : asks_of opening.setup u (log ++ es) ≡ asks_of opening.setup u log ++ asked)
       (replies_are : replies_of kind opening u (log ++ es) ≡ replies_of kind opening u log ++ told)
       (pending_is : pending_of kind opening u (log ++ es) ≡ rest ++ asked)
       (first_told : (gone : List (NestedAsk O)) × (pending_of kind opening u log ≡ gone ++ rest) × (map (λ a. a.ticket) gone ≡ map (λ t. t.ticket) told))
-      (still : AllZip (IsAsker (state_after kind opening (log ++ es))) goes.kept rest)
+      (still : AllZip (IsAsker (state_after kind opening (log ++ es))) kept rest)
       (unsaid : goes.sent ≢ [] → has_bye up.sent ≡ false) where
     replied : map (λ t. t.reply) (replies_of kind opening u log ++ told) ++ becomes.came.items ≡ map (λ t. t.reply) (replies_of kind opening u log) ++ lane.came.items
     replied =
@@ -144,8 +144,8 @@ module _ {V O R T : Type 0} where
       tickets = new_tickets;
       askers =
           subst (λ l. AllZip (IsAsker (state_after kind opening (log ++ es))) l (pending_of kind opening u (log ++ es))) (sym goes.askers)
-          (subst (λ l. AllZip (IsAsker (state_after kind opening (log ++ es))) (goes.kept ++ goes.added) l) (sym pending_is)
-          (zip-append (IsAsker (state_after kind opening (log ++ es))) goes.kept goes.added rest asked still goes.are_askers));
+          (subst (λ l. AllZip (IsAsker (state_after kind opening (log ++ es))) (kept ++ goes.added) l) (sym pending_is)
+          (zip-append (IsAsker (state_after kind opening (log ++ es))) kept goes.added rest asked still goes.are_askers));
       askers_room = goes.askers_room ∙ is.askers_room;
       waits_room = goes.waits_room ∙ is.waits_room;
       came_room = goes.came_room ∙ is.came_room;

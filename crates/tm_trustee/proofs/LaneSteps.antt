@@ -142,13 +142,12 @@ module _ {V O R T : Type 0} where
 
   pub both_go :
       (ids : List ℕ) (s' : State V O R T) (told : List (ToldReply R)) (asked : List (NestedAsk O)) (lane mid becomes : Lane V O R T)
-      → Took told lane mid → Adds ids s' asked mid becomes → LaneGoes ids s' told asked lane becomes
+      → Took told lane mid → Adds ids s' asked mid becomes → LaneGoes ids s' told asked mid.askers.items lane becomes
   both_go ids s' told asked lane mid becomes took adds = record {
     stage = adds.stage ∙ took.stage;
     names = adds.names ∙ took.names;
     came = took.came ∙ ap (λ c. map (λ t. t.reply) told ++ c.items) (sym adds.came);
     came_room = ap (λ c. c.capacity) adds.came ∙ took.came_room;
-    kept = mid.askers.items;
     added = adds.added;
     gone = took.askers;
     askers = adds.askers;

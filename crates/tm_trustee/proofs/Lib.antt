@@ -34,4 +34,6 @@ pub mod LaneSteps
 pub mod GoingOn
 pub mod HeldCounts
 pub mod GoingLoops
+pub mod Noting
+pub mod Telling
 pub mod TurningResumes

@@ -230,7 +230,7 @@ module _ {V O R T Table Client Owner : Type 0} (theory : Theory V O R T Table Cl
       going : IsGoing theory kind opening p
       going = (at_mid theory kind b p was parts.midway (subst (λ n. slice_get b n ≡ Some was) (sym number_is) is_looked)).1
 
-      done_goes : (es : List (Entry V O R T)) × (done_by theory w ≡ done_by theory t ++ es) × (resumes_in es ≡ length es) × (resumed ≡ min (length es) (2 ^ 64 - 1))
+      done_goes : (es : List (Entry V O R T)) × (done_by theory w ≡ done_by theory t ++ es) × (resumes_in es ≡ length es) × (resumed ≡ min (length es) (2 ^ 64 - 1)) × AreResumes es
       done_goes =
           let (es, grows, only, count) = (parts.goes opening going).0 in
           let log = ap (λ (x : Trustee V Table O R T Client Owner). (theory.trustee_view x.side).log) parts.goes_only in (
@@ -239,12 +239,13 @@ module _ {V O R T Table Client Owner : Type 0} (theory : Theory V O R T Table Cl
                 ∙ sym (append_assoc (theory.trustee_view p.side).log p.since.items es) ∙ ap (λ l. l ++ es) done_is,
             resumes_all es only,
             count,
+            only,
           )
 
       caught_up : AreCaughtUp kind opening (state_after kind opening (done_by theory t)).next_ticket (done_by theory r)
       caught_up id x xs at lt =
           let (es, grows, none) = parts.goes_on in
-          let (first, grew, all_resumed, count) = done_goes in
+          let (first, grew, all_resumed, count, only) = done_goes in
           let last = at_home theory kind c q now parts.served (subst (λ n. slice_get c n ≡ Some now) (sym number_then) is_served) in
           let represents = subst (λ s. Represents kind s (done_by theory q) q.state) opening_is last.1.current.represents in
           let legal : IsLegal kind opening (done_by theory w ++ es) = subst (λ l. IsLegal kind opening l) grows represents.is_legal in
@@ -269,7 +270,7 @@ module _ {V O R T Table Client Owner : Type 0} (theory : Theory V O R T Table Cl
         all_resumed : (m : ℕ) × (resumes_in (done_by theory r) - resumes_in (done_by theory t) ≡ m) × (resumed ≡ min m (2 ^ 64 - 1))
         all_resumed =
             let (es, grows, none) = parts.goes_on in
-            let (first, grew, many, count) = done_goes in
+            let (first, grew, many, count, only) = done_goes in
             let joined = resumes_in-append (done_by theory w) es in
             let joined_first = resumes_in-append (done_by theory t) first in
             let one = ap resumes_in grew in
@@ -291,7 +292,7 @@ module _ {V O R T Table Client Owner : Type 0} (theory : Theory V O R T Table Cl
             let finds = finds_is in
             let byes = says_is in
             let (m, difference, count) = all_resumed in
-            let (first, grew, many_resumed, counted) = done_goes in
+            let (first, grew, many_resumed, counted, only) = done_goes in
             let over_at = over_exactly (r.clients + r.number) r.lanes.items (ups_of theory r) (is_above theory kind d r parts.last) in
             let (es, grows, none) = parts.goes_on in
             let to : IsTrue both → HasEnded opening (theory.trustee_view r.side) (ups_of theory r) =
@@ -302,7 +303,7 @@ module _ {V O R T Table Client Owner : Type 0} (theory : Theory V O R T Table Cl
               serves = served_all;
               looks = λ c lt. looked_below theory kind opening n c was now t.side r.side served_all (omega (arith, many)) lt;
               log = below_grows theory kind opening n was now t.side r.side served_all;
-              done = (first ++ es, done_last ∙ grows ∙ ap (λ l. l ++ es) grew ∙ append_assoc (done_by theory t) first es);
+              done = (first, es, done_last ∙ grows ∙ ap (λ l. l ++ es) grew ∙ append_assoc (done_by theory t) first es, only, none);
               above = goes_up (λ n x. unsent opening.setup (done_by theory t) n x) ended (t.number + 1) (ups_of theory t) (ups_of theory p) (ups_of theory r) views_looked
                   (all_say_as (IsTrue all) ended exactly.0 exactly.1 (t.number + 1) (ups_of theory p) (ups_of theory r) views_said);
               caught_up = caught_up;

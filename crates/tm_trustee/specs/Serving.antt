@@ -36,6 +36,11 @@ module _ {V O R T : Type 0} where
   abbrev pub GoesOn : List (Entry V O R T) → List (Entry V O R T) → Type 0
   GoesOn old new = (es : List (Entry V O R T)) × (new ≡ old ++ es) × (resumes_in es ≡ 0)
 
+  -- it grew by resumes, and then by entries none of which is one
+  abbrev pub GrowsInOrder : List (Entry V O R T) → List (Entry V O R T) → Type 0
+  GrowsInOrder old new =
+      (es : List (Entry V O R T)) × (more : List (Entry V O R T)) × (new ≡ old ++ (es ++ more)) × AreResumes es × (resumes_in more ≡ 0)
+
   -- what a trustee has is current: it represents the log of its side and then what was resumed since its last answer
   pub record IsCurrent (kind : Kind V O R T) (opening : State V O R T) (log since : List (Entry V O R T)) (state : StateView V O R T) : Type 0 where
     pub represents : Represents kind opening (log ++ since) state

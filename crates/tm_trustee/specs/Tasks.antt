@@ -1,5 +1,5 @@
 -- How a trustee goes on with launched work.
-use Rattle.std.specs.Prelude.{◌≡◌, ◌≢◌, ℕ, ◌+◌, ◌-◌, ◌^◌, ◌<◌, min, List, [], ◌∷◌, ◌++◌, length, slice_get, slice_set, slice_index_or}
+use Rattle.std.specs.Prelude.{◌≡◌, ◌≢◌, ℕ, ◌+◌, ◌-◌, ◌^◌, ◌<◌, ◌≤◌, min, List, [], ◌∷◌, ◌++◌, length, slice_get, slice_set, slice_index_or}
 use Rattle.std.specs.declared.option.Option.TheVariants.{Some}
 use Rattle.tm_seq.specs.Kind.{Kind}
 use Rattle.tm_batch.specs.declared.message.Name.{Name}
@@ -10,7 +10,7 @@ use Rattle.tm_model.specs.State.{State}
 use Rattle.tm_latch.specs.declared.ticket.Ticket.{Ticket}
 use Rattle.tm_pair.specs.Views.{ClientView}
 use Rattle.tm_state.specs.Launches.{Pending}
-use Rattle.tm_state.specs.Resuming.{AreHeld, Makes}
+use Rattle.tm_state.specs.Resuming.{AreHeld}
 use Rattle.tm_state.specs.StateView.{StateView}
 use Rattle.tm_state.specs.declared.made.Made.{Made}
 use Rattle.tm_state.specs.declared.resumed.Resumed.{Resumed}
@@ -46,6 +46,19 @@ module _ {V O R T : Type 0} where
     pub came_room : becomes.came.capacity ≡ lane.came.capacity
     pub askers : lane.askers.items ≡ launch ∷ becomes.askers.items
     pub askers_room : becomes.askers.capacity ≡ lane.askers.capacity
+
+  -- a lane has as many launches that asked as replies came, at least
+  abbrev pub HasAskers : ℕ → List (Lane V O R T) → Type 0
+  HasAskers i lanes = (lane : Lane V O R T) → slice_get lanes i ≡ Some lane → length lane.came.items ≤ length lane.askers.items
+
+  -- no reply that came at it is left to tell
+  abbrev pub IsToldAt : ℕ → List (Lane V O R T) → Type 0
+  IsToldAt i lanes = (lane : Lane V O R T) → slice_get lanes i ≡ Some lane → lane.came.items ≡ []
+
+  -- the first reply that came at it, and the launch that asked, were taken
+  abbrev pub TakesAt : ℕ → Ticket (Pending T) → R → List (Lane V O R T) → List (Lane V O R T) → Type 0
+  TakesAt i launch reply old new =
+      (lane : Lane V O R T) × (mid : Lane V O R T) × (slice_get old i ≡ Some lane) × TakesReply launch reply lane mid × (new ≡ slice_set old i mid)
 
   -- what a launch did last can be noted: where it asks, the lane is there and has room
   abbrev pub MayNote : ℕ → Resumed V O R T → List (Lane V O R T) → Type 0
@@ -87,9 +100,11 @@ module _ {V O R T : Type 0} where
   SameCame i old new =
       (k : ℕ) (was now : Lane V O R T) → slice_get old k ≡ Some was → slice_get new k ≡ Some now → k ≢ i → now.came.items ≡ was.came.items
 
-  -- resumes were made, and counted
+  -- resumes were made, and counted as a `u64` counts them
   abbrev pub MadeMore : Made V O R T → Made V O R T → Type 0
-  MadeMore old new = (es : List (Entry V O R T)) × AreResumes es × Makes es old new
+  MadeMore old new =
+      (es : List (Entry V O R T)) × AreResumes es × (new.entries.items ≡ old.entries.items ++ es)
+      × (old.count < 2 ^ 64 → new.count ≡ min (old.count + length es) (2 ^ 64 - 1))
 
   abbrev pub ResumesMade : List (Entry V O R T) → List (Entry V O R T) → ℕ → Type 0
   ResumesMade old new n = (es : List (Entry V O R T)) × (new ≡ old ++ es) × AreResumes es × (n ≡ min (length es) (2 ^ 64 - 1))

@@ -15,7 +15,7 @@ use Rattle.tm_trustee.specs.Above.{IsAt, unsent, ExchangesAt, GoesUp, GoesUpAt, 
 use Rattle.tm_trustee.specs.AboveAt.{EachAt}
 use Rattle.tm_trustee.specs.Awaiting.{AreCaughtUp, IsWaiting}
 use Rattle.tm_trustee.specs.NestedAsks.{works_at}
-use Rattle.tm_trustee.specs.Serving.{resumes_in, done_by, ups_of, IsGoing}
+use Rattle.tm_trustee.specs.Serving.{resumes_in, GrowsInOrder, done_by, ups_of, IsGoing}
 use Rattle.tm_trustee.specs.declared.stage.Stage.TheVariants.{Over}
 use Rattle.tm_trustee.specs.declared.served.Served.{Served}
 use Rattle.tm_trustee.specs.declared.served.Served.TheVariants.{Moved, Quiet, Ended}
@@ -79,9 +79,9 @@ module _ {V O R T Table Client Owner : Type 0} (theory : Theory V O R T Table Cl
     pub serves : ServesAll theory kind was now t.side u.side
     pub looks : (c : ℕ) → c < place_count (theory.opening was).setup
         → (looks_at (theory.trustee_view u.side) c).count ≡ (looks_at (theory.trustee_view t.side) c).count + 1
-    -- its log, and all that it has done, only grow
+    -- its log only grows, and what it has done by resumes and then by what it answered: so it looked at the places when no task could go on
     pub log : IsPrefix (theory.trustee_view t.side).log (theory.trustee_view u.side).log
-    pub done : IsPrefix (done_by theory t) (done_by theory u)
+    pub done : GrowsInOrder (done_by theory t) (done_by theory u)
     -- above it looked for answers, or sent the first of what its work had asked, and says Bye once all below have
     pub above : Each
         (λ n from to. GoesUp (unsent (theory.opening was).setup (done_by theory t) n from) (HaveAllEnded (theory.opening was) (theory.trustee_view u.side).log) from to)

@@ -1,20 +1,15 @@
 //! A trustee goes on with launched work.
-ghost use Rattle.std.specs.Prelude.{◌≡◌, ◌≢◌, ℕ, ◌+◌, ◌-◌, ◌^◌, ◌<◌, ◌≤◌, ◌++◌, [], List, length, slice_get, IsSome};
-ghost use Rattle.std.specs.declared.option.Option.TheVariants.{Some};
-ghost use Rattle.tm_model.specs.State.{State};
-ghost use Rattle.tm_model.specs.declared.entry.Entry.{Entry};
-ghost use Rattle.tm_pair.specs.Views.{ClientView};
+ghost use Rattle.std.specs.Prelude.{◌≡◌, ◌<◌, length, IfNone, IfSome};
 ghost use Rattle.tm_state.specs.Resuming.{AllAwait};
 ghost use Rattle.tm_trustee.specs.Serving.{AreTold};
-ghost use Rattle.tm_trustee.specs.Tasks.{MayNote, Notes, IsGoingOn, GoesOnWith, SameCame, MadeMore, ResumesMade};
-ghost use Rattle.tm_trustee.specs.declared.lane.Lane.{Lane};
+ghost use Rattle.tm_trustee.specs.Tasks.{MayNote, Notes, HasAskers, IsToldAt, TakesAt, IsGoingOn, GoesOnWith, SameCame, MadeMore, ResumesMade};
 
 use crate::lane::Lane;
 use std::mem;
 use tm_ghost::GhostList;
 use tm_model::Entry;
 use tm_pair::FitsBatches;
-use tm_state::{Made, Resumed, TrusteeState};
+use tm_state::{Launch, Made, Resumed, TrusteeState};
 
 /// Notes what a launch did last: an ask waits at its trustee's lane, and the launch for its reply.
 fn note<S: FitsBatches>(lanes: &mut Vec<Lane<S>>, number: u32, resumed: Resumed<S>)
@@ -28,8 +23,20 @@ fn note<S: FitsBatches>(lanes: &mut Vec<Lane<S>>, number: u32, resumed: Resumed<
         launch,
     } = resumed
     {
-        lanes[(trustee - number - 1) as usize].ask(index, op, launch);
+        let lane = (trustee - number - 1) as usize;
+        lanes[lane].ask(index, op, launch);
     }
+}
+
+/// Takes the first reply that came at a lane and was not told, with the launch that asked.
+fn next_at<S: FitsBatches>(lanes: &mut Vec<Lane<S>>, i: usize) -> Option<(Launch<S>, S::Reply)>
+    requires index { i < length lanes.old.items }
+    requires askers { HasAskers i lanes.old.items }
+    ensures none { IfNone result (IsToldAt i lanes.old.items) }
+    ensures same { IfNone result (lanes.new.items ≡ lanes.old.items) }
+    ensures takes { IfSome result (λ r. TakesAt i r.0 r.1 lanes.old.items lanes.new.items) }
+{
+    lanes[i].next_reply()
 }
 
 /// Tells the replies that came at a lane, in order, each to the launch that asked.
@@ -46,10 +53,10 @@ fn tell_lane<S: FitsBatches>(
     ensures goes { GoesOnWith S.kind number held.now made.old.entries.items made.new.entries.items state.old state.new lanes.old.items lanes.new.items }
     ensures made { MadeMore made.old made.new }
     ensures as_many { length lanes.new.items ≡ length lanes.old.items }
-    ensures told { (lane : Lane S S.Op S.Reply S.Task) → slice_get lanes.new.items i ≡ Some lane → lane.came.items ≡ [] }
+    ensures told { IsToldAt i lanes.new.items }
     ensures others { SameCame i lanes.old.items lanes.new.items }
 {
-    while let Some((launch, reply)) = lanes[i].next_reply() {
+    while let Some((launch, reply)) = next_at(lanes, i) {
         let resumed = state.reply(held, launch, reply, made);
         note(lanes, number, resumed);
     }

@@ -1,7 +1,8 @@
-use Rattle.std.proofs.Common.{◌≡◌, ◌∙◌, [], refl, ap, sym, arith}
+use Rattle.std.proofs.Common.{◌≡◌, ◌∙◌, [], min, refl, ap, sym, arith}
 use Rattle.std.specs.Prelude.{take, drop, slice_index_or, slice_set}
 use Rattle.std.proofs.lemmas.List.{set-get_or}
-use Rattle.tm_state.proofs.BatchLeaves.{ready_more, no_ready, one_ready}
+use Rattle.tm_batch.specs.declared.limits.TheConstants.{MOST_COMPLETIONS}
+use Rattle.tm_state.proofs.BatchLeaves.{ready_more, no_ready, one_ready, take_least, drop_least}
 use Rattle.tm_state.proofs.state.take_ready.Goals as goal
 use Rattle.tm_state.proofs.state.take_ready.Goals.{in-Some, in_default}
 
@@ -31,10 +32,15 @@ loop-preserved g c =
 
 pub returns-clause-completions : goal.returns-clause-completions
 returns-clause-completions g c =
-    let all : c.loop.counter ≡ 16 = omega arith in
-    c.loop.invariant.completions ∙ ap (λ n. take n (slice_index_or c.args.ready.now c.args.place [])) all
+    let waits = slice_index_or c.args.ready.now c.args.place [] in
+    let at : c.loop.counter ≡ c.min-end.result = omega (arith, c.loop-test.false, c.loop.auto.counter-end) in
+    let end = at ∙ c.min-end.ensures ∙ ap (λ n. min n MOST_COMPLETIONS) c.count.ensures in
+    c.loop.invariant.completions ∙ ap (λ n. take n waits) end ∙ take_least MOST_COMPLETIONS waits
 
 pub returns-clause-taken : goal.returns-clause-taken
 returns-clause-taken g c =
-    let all : c.loop.counter ≡ 16 = omega arith in
-    c.loop.invariant.taken ∙ ap (λ n. slice_set c.args.ready.now c.args.place (drop n (slice_index_or c.args.ready.now c.args.place []))) all
+    let waits = slice_index_or c.args.ready.now c.args.place [] in
+    let at : c.loop.counter ≡ c.min-end.result = omega (arith, c.loop-test.false, c.loop.auto.counter-end) in
+    let end = at ∙ c.min-end.ensures ∙ ap (λ n. min n MOST_COMPLETIONS) c.count.ensures in
+    c.loop.invariant.taken ∙ ap (λ n. slice_set c.args.ready.now c.args.place (drop n waits)) end
+    ∙ ap (λ l. slice_set c.args.ready.now c.args.place l) (drop_least MOST_COMPLETIONS waits)
