@@ -93,18 +93,18 @@ module _ {V O R T : Type 0} where
       let (rest, all) = first_tickets l.id h.launched l e in
       (map work_of rest, sym (kept_works s h l.id keeps) ∙ ap (map work_of) all)
 
+module _ {T : Type 0} where
+  abbrev launch_of : ℕ → Work T → Ticket (Pending T)
+  launch_of id w = record { id = id; number = w.ticket; task = record { place = w.place; task = w.task; awaits = w.awaits } }
+
   same_ticket : (a b : Ticket (Pending T)) → a.id ≡ b.id → work_of a ≡ work_of b → a ≡ b
-  same_ticket a b id works =
-      let place : a.task.place ≡ b.task.place = ap (λ (w : Work T). w.place) works in
-      let number : a.number ≡ b.number = ap (λ (w : Work T). w.ticket) works in
-      let task : a.task.task ≡ b.task.task = ap (λ (w : Work T). w.task) works in
-      let awaits : a.task.awaits ≡ b.task.awaits = ap (λ (w : Work T). w.awaits) works in
-      cc
+  same_ticket a b id works = ap (λ i. launch_of i (work_of a)) id ∙ ap (λ w. launch_of b.id w) works
 
   mapped_first : (ts : List (Ticket (Pending T))) (w : Work T) (ws : List (Work T)) → map work_of ts ≡ w ∷ ws → (t : Ticket (Pending T)) × (rest : List (Ticket (Pending T))) × (ts ≡ t ∷ rest) × (work_of t ≡ w)
   mapped_first [] w ws e = absurd cc
   mapped_first (t ∷ ts) w ws e = let is : work_of t ≡ w = cc in (t, ts, refl, is)
 
+module _ {V O R T : Type 0} where
   -- and the other way round
   pub works_first :
       (s : State V O R T) (h : StateView V O R T) (l : Ticket (Pending T)) (ws : List (Work T)) → Keeps s h → works_at s l.id ≡ work_of l ∷ ws

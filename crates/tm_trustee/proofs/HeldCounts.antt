@@ -17,7 +17,6 @@ use Rattle.tm_trustee.specs.Begun.{MayBegin}
 use Rattle.tm_trustee.specs.Lanes.{AreNewLanes, AreCounted, names_held}
 use Rattle.tm_trustee.specs.declared.lane.Lane.{Lane}
 use Rattle.tm_trustee.proofs.Elements.{element_at}
-use Rattle.tm_trustee.proofs.HeldAbove.{above_at}
 use Rattle.tm_trustee.proofs.LaneNews.{count_there, count_below, count_past, counts_read}
 
 module _ {V : Type 0} where

@@ -1,5 +1,5 @@
 -- What a lane is after the launch that asked first was told its reply, and after an ask waits at it.
-use Rattle.std.proofs.Common.{◌≡◌, ◌≢◌, ℕ, zero, suc, ◌+◌, ◌<◌, ◌≤◌, List, [], ◌∷◌, ◌++◌, length, map, slice_index_or, inl, inr, refl, sym, ◌∙◌, ap, subst, arith, append-nil, length-append}
+use Rattle.std.proofs.Common.{◌≡◌, ◌≢◌, ℕ, zero, suc, ◌+◌, ◌<◌, ◌≤◌, true, List, [], ◌∷◌, ◌++◌, length, map, slice_index_or, inl, inr, refl, sym, ◌∙◌, ap, subst, arith, append-nil, length-append}
 use Rattle.std.specs.Prelude.{nat_eq, slice_get, ◌||◌}
 use Rattle.std.specs.Cmp.{nat_eq_equiv}
 use Rattle.std.specs.List.{AllByRecursion, AllZip, IsDistinct, list_any}
@@ -160,6 +160,7 @@ module _ {V O R T : Type 0} where
     sent_among = adds.sent_among;
   }
 
+module _ {V T : Type 0} where
   -- an object with a launch is live
   is_live : (live : List (Object V T)) (id : ℕ) (P : Work T → Type 0) → HasFirst (works_in (object_of live id)) P → list_any (nat_eq id) (map (λ o. o.id) live) ≡ true
   is_live [] id P first = absurd first
@@ -171,6 +172,7 @@ module _ {V O R T : Type 0} where
             ap (λ b. b || list_any (nat_eq id) (map (λ x. x.id) live)) (ne_eqb id o.id (λ e. ne (sym e))) ∙ is_live live id P later
       ]
 
+module _ {V O T : Type 0} where
   -- objects whose first launches asked are live: of different ones there are no more than of those
   pub few_asks :
       (live : List (Object V T)) (asks : List (NestedAsk O)) (P : NestedAsk O → Work T → Type 0)

@@ -124,7 +124,7 @@ impl<P: PairTable<Counter>> Play<P> {
         requires { IsPlayed P.theory self.old.tables.items self.old.middle self.old.greatest self.old.client self.old.asked }
         ensures { IsPlayed P.theory self.new.tables.items self.new.middle self.new.greatest self.new.client self.new.asked }
     {
-        self.middle.serve_turn(&mut self.tables, &FreeGate)
+        self.middle.serve_turn(self.tables.as_mut_slice(), &FreeGate)
     }
 
     /// A turn of the greatest one.
@@ -132,6 +132,6 @@ impl<P: PairTable<Counter>> Play<P> {
         requires { IsPlayed P.theory self.old.tables.items self.old.middle self.old.greatest self.old.client self.old.asked }
         ensures { IsPlayed P.theory self.new.tables.items self.new.middle self.new.greatest self.new.client self.new.asked }
     {
-        self.greatest.serve_turn(&mut self.tables, &FreeGate)
+        self.greatest.serve_turn(self.tables.as_mut_slice(), &FreeGate)
     }
 }
