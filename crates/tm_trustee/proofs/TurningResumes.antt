@@ -25,7 +25,10 @@ use Rattle.tm_trustee.specs.declared.lane.Lane.{Lane}
 use Rattle.tm_trustee.specs.declared.trustee.Trustee.{Trustee}
 use Rattle.tm_trustee.proofs.Elements.{there}
 
-module _ {V O R T : Type 0} where
+no_start : (setup : Setup) (a : Awaits) → AwaitsReply setup a → a ≡ Start → ⊥
+no_start setup a awaits start = subst (AwaitsReply setup) start awaits
+
+module _ {V T : Type 0} where
   -- the first launch of an object awaits a reply, where all of them do
   first_awaits :
       (setup : Setup) (live : List (Object V T)) (id : ℕ) (w : Work T) (ws : List (Work T))
@@ -40,9 +43,6 @@ module _ {V O R T : Type 0} where
               | inr first ↦ subst (λ l. HasFirst l (λ y. AwaitsReply setup y.awaits)) works first
             ]
       ]
-
-  no_start : (setup : Setup) (a : Awaits) → AwaitsReply setup a → a ≡ Start → ⊥
-  no_start setup a awaits start = subst (AwaitsReply setup) start awaits
 
 module _ {V O R T Table Client Owner : Type 0} (theory : Theory V O R T Table Client Owner) (kind : Kind V O R T) (t : Trustee V Table O R T Client Owner) where
   pub going_parts :
@@ -63,7 +63,7 @@ module _ {V O R T Table Client Owner : Type 0} (theory : Theory V O R T Table Cl
 
   pub is_going : (tables : List Table) → IsMidway theory kind tables t → IsGoingOn V O R T kind t.number t.held.items t.since.items t.state t.lanes.items
   is_going tables midway =
-      let (own, at, has, going) = there (λ table. theory.HasTrustee table t.side × IsGoing theory kind (theory.opening table) t) (slice_get tables t.number) midway.home in
+      let (own, at, (has, going)) = there (λ table. theory.HasTrustee table t.side × IsGoing theory kind (theory.opening table) t) (slice_get tables t.number) midway.home in
       (theory.opening own, (theory.trustee_view t.side).log, ups_of theory t, going_parts (theory.opening own) going)
 
   -- it went on
@@ -94,7 +94,7 @@ module _ {V O R T Table Client Owner : Type 0} (theory : Theory V O R T Table Cl
 
     pub is_ready : (tables : List Table) → IsMidway theory kind tables t → IsReady theory kind tables u
     is_ready tables midway =
-        let (own, at, has, going) = there (λ table. theory.HasTrustee table t.side × IsGoing theory kind (theory.opening table) t) (slice_get tables t.number) midway.home in
+        let (own, at, (has, going)) = there (λ table. theory.HasTrustee table t.side × IsGoing theory kind (theory.opening table) t) (slice_get tables t.number) midway.home in
         subst (λ x. IsReady theory kind tables x) (sym only)
         (record {
           home = subst (λ o. IsSomeAnd o (λ table. theory.HasTrustee table t.side × IsServing theory kind (theory.opening table) after)) (sym at)
