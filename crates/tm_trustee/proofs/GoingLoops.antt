@@ -38,20 +38,20 @@ use Rattle.tm_trustee.proofs.LaneSteps.{Took, took_none, took_one, zip_length}
 use Rattle.tm_trustee.proofs.Replied.{asked_by-append}
 use Rattle.tm_trustee.proofs.Resuming.{both_resume}
 
+awaits_ask : (setup : Setup) (u : ℕ) (a : Awaits) → IsAskAt setup u a → (x : ℕ) × (a ≡ AskOf u x)
+awaits_ask setup u Start asks = absurd asks
+awaits_ask setup u (AskOf v x) asks = (x, ap (λ n. AskOf n x) asks.0)
+
+first_is : {T : Type 0} (ws : List (Work T)) (v : Work T) → HasFirst ws (λ w. w ≡ v) → (rest : List (Work T)) × (ws ≡ v ∷ rest)
+first_is [] v first = absurd first
+first_is (w ∷ ws) v first = (ws, ap (λ x. x ∷ ws) first)
+
 module _ {V O R T : Type 0} where
   -- what is resumable, of what goes on
   pub resumable :
       (kind : Kind V O R T) (number : ℕ) (held : List ℕ) (since : List (Entry V O R T)) (h : StateView V O R T) (lanes : List (Lane V O R T))
       → IsGoingOn V O R T kind number held since h lanes → IsResumable kind held since h
   resumable kind number held since h lanes (opening, log, ups, are) = (opening, log, (are.current.represents, are.holds))
-
-  awaits_ask : (setup : Setup) (u : ℕ) (a : Awaits) → IsAskAt setup u a → (x : ℕ) × (a ≡ AskOf u x)
-  awaits_ask setup u Start asks = absurd asks
-  awaits_ask setup u (AskOf v x) asks = (x, ap (λ n. AskOf n x) asks.0)
-
-  first_is : (ws : List (Work T)) (v : Work T) → HasFirst ws (λ w. w ≡ v) → (rest : List (Work T)) × (ws ≡ v ∷ rest)
-  first_is [] v first = absurd first
-  first_is (w ∷ ws) v first = (ws, ap (λ x. x ∷ ws) first)
 
   first_asker :
       (s : State V O R T) (t : Ticket (Pending T)) (askers : List (Ticket (Pending T))) (asks : List (NestedAsk O)) → AllZip (IsAsker s) (t ∷ askers) asks
@@ -175,7 +175,7 @@ module _ {V O R T : Type 0} where
           subst (λ v. Represents kind opening (log ++ v) new) begun_are
           (keeps opening log (subst (λ v. MayGoOn kind held v opening log h) (sym since_is) (are.current.represents, are.holds)))
 
-      begins : IsToldRightly opening.setup Begin l.id (work_of l) (λ v. pending_of kind opening v (log ++ since))
+      begins : IsToldRightly {R = R} opening.setup Begin l.id (work_of l) (λ v. pending_of kind opening v (log ++ since))
       begins = inl (refl, start)
 
       took_nothing :

@@ -1,10 +1,10 @@
-use Rattle.std.proofs.Common.{◌≡◌, ◌+◌, ◌<◌, ◌≤◌, length, ◌∙◌, sym, subst, arith}
+use Rattle.std.proofs.Common.{rules, ◌≡◌, ◌+◌, ◌<◌, ◌≤◌, length, ◌∙◌, sym, subst, arith}
 use Rattle.tm_trustee.proofs.Telling as telling
 use Rattle.tm_trustee.proofs.tasks.tell_all.Goals as goal
 
 pub loop-i-init : goal.loop-i-init
 loop-i-init g c = record {
-  from = telling.from_first g.S.Entrusted.kind c.args.number c.args.held.now c.args.made.now c.args.state.now c.args.lanes.now.items c.requires;
+  from = telling.from_first g.S.Entrusted.kind c.args.number c.args.held.now c.args.made.now c.args.state.now c.args.lanes.now.items c.requires.going;
   count = search rules;
   told = λ k lane lt at. absurd (omega (arith, lt));
 }
