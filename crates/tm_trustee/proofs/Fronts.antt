@@ -29,10 +29,6 @@ module _ {X : Type 0} where
   removed (y ∷ xs) ys x lt is e = rw e (ap (λ z. z ∷ xs) (sym is))
 
   -- what a test of a list's length tells
-  pub nothing : (xs : List X) → length xs ≡ 0 → xs ≡ []
-  nothing [] e = refl
-  nothing (x ∷ xs) e = absurd (omega (arith, e))
-
   pub empty_of : (xs : List X) → true ≡ (length xs == 0) → xs ≡ []
   empty_of [] e = refl
   empty_of (x ∷ xs) e = absurd (let none = is_same (length (x ∷ xs)) 0 (sym e) in omega (arith, none))

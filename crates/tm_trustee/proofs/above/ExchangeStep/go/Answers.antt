@@ -11,10 +11,14 @@ take_in-requires g c =
     let theory = g.P.PairTable.theory in
     let good = g.met.P.PairTable.laws.client_is_good c.args.table.now c.args.seat.now c.requires.mine in (
       g.met.S.FitsAnswers.fits,
-      c.requires.needs.told,
-      c.requires.needs.room,
-      exchanging.got_few g.S.Entrusted.kind (theory.opening c.args.table.now) (theory.client_view c.args.seat.now) (theory.client_view c.collect.new.side)
-          c.in-Answers.came good c.in-Answers.ensures.collects,
+      (
+        c.requires.needs.told,
+        (
+          c.requires.needs.room,
+          exchanging.got_few g.S.Entrusted.kind (theory.opening c.args.table.now) (theory.client_view c.args.seat.now) (theory.client_view c.collect.new.side)
+              c.in-Answers.came good c.in-Answers.ensures.collects,
+        ),
+      ),
     )
 
 pub returns-in-Answers : goal.returns-in-Answers

@@ -2,7 +2,7 @@ use Rattle.std.proofs.Common.{rules, ◌≡◌, ◌+◌, ◌<◌, ◌≤◌, ◌
 use Rattle.tm_trustee.specs.declared.lane.Lane.{Lane}
 use Rattle.tm_trustee.specs.Lanes.{after_answers_lem}
 use Rattle.tm_trustee.specs.NestedAsks.{replied_in}
-use Rattle.tm_trustee.proofs.Fronts.{nothing, removed}
+use Rattle.tm_trustee.proofs.Fronts.{empty_of, removed}
 use Rattle.tm_trustee.proofs.Replied.{noting, noting_room}
 use Rattle.tm_trustee.proofs.lane.Lane.take_in.Goals as goal
 
@@ -37,8 +37,7 @@ loop-answers-preserved g c =
 
 pub returns : goal.returns
 returns g c =
-    let zero : length c.loop-answers.answers.items ≡ 0 = search rules in
-    let none : c.loop-answers.answers.items ≡ [] = nothing c.loop-answers.answers.items zero in
+    let none : c.loop-answers.answers.items ≡ [] = empty_of c.loop-answers.answers.items (sym c.loop-answers-test.false ∙ c.is_empty.ensures) in
     let i = c.loop-answers.invariant in record {
       stage = c.after_answers-self.ensures ∙ ap (λ (x : Lane _ _ _ _). after_answers_lem x.stage) i.only;
       names = ap (λ (x : Lane _ _ _ _). x.names) i.only;
