@@ -33,6 +33,9 @@ use Rattle.tm_trustee.proofs.TurningReady.{at_home, own_table}
 
 module _ {V O R T : Type 0} (kind : Kind V O R T) (opening home : State V O R T) (done : List (Entry V O R T)) (u : ℕ) (up : ClientView V O R T) (lane : Lane V O R T)
     (is : IsLane kind opening done u up lane) (good : IsGoodClient kind home up) (asked : AllByRecursion IsOfTrustee up.sent) where
+  abbrev reply_of : R → Answer V O R T
+  reply_of r = Replied r
+
   has_sent : HasSent (map target (asks_of opening.setup u done)) up.sent
   has_sent =
       elim is.last [
@@ -54,16 +57,16 @@ module _ {V O R T : Type 0} (kind : Kind V O R T) (opening home : State V O R T)
       let (rest, e) = replied_all (ran up.place up.seen) (answered up.place up.seen) (front_only (ran up.place up.seen) up.sent (ran_front up.out up.sent (ran up.place up.seen) good.runs) asked)
       (behind_front (ran up.place up.seen) up.sent (ran_front up.out up.sent (ran up.place up.seen) good.runs) (last_of is.last)) (seen_fits kind opening done u up lane is home good) in
       let seen = seen_replies kind opening done u up lane is home good in (
-        map (λ r. Replied r) lane.came.items ++ rest,
-        e ∙ ap (λ l. map (λ r. Replied r) l ++ rest) (sym seen)
-            ∙ ap (λ l. l ++ rest) (map-append (λ (r : R). Replied {V = V} {O = O} {R = R} {T = T} r) (map (λ t. t.reply) replies) lane.came.items)
-            ∙ append_assoc (map (λ r. Replied r) (map (λ t. t.reply) replies)) (map (λ r. Replied r) lane.came.items) rest
-            ∙ ap (λ l. l ++ (map (λ r. Replied r) lane.came.items ++ rest)) (twice replies),
+        map reply_of lane.came.items ++ rest,
+        e ∙ ap (λ l. map reply_of l ++ rest) (sym seen)
+            ∙ ap (λ l. l ++ rest) (map-append reply_of (map (λ t. t.reply) replies) lane.came.items)
+            ∙ append_assoc (map reply_of (map (λ t. t.reply) replies)) (map reply_of lane.came.items) rest
+            ∙ ap (λ l. l ++ (map reply_of lane.came.items ++ rest)) (twice replies),
       )
     where
-      twice : (xs : List (ToldReply R)) → map (λ r. Replied {V = V} {O = O} {R = R} {T = T} r) (map (λ t. t.reply) xs) ≡ map (λ t. Replied t.reply) xs
+      twice : (xs : List (ToldReply R)) → map reply_of (map (λ t. t.reply) xs) ≡ map (λ t. Replied t.reply) xs
       twice [] = refl
-      twice (x ∷ xs) = ap (λ l. Replied x.reply ∷ l) (twice xs)
+      twice (x ∷ xs) = ap (λ l. reply_of x.reply ∷ l) (twice xs)
 
       front_only : (xs ys : List (Request V O R T)) → IsPrefix xs ys → AllByRecursion IsOfTrustee ys → AllByRecursion IsOfTrustee xs
       front_only [] ys front all = tt
