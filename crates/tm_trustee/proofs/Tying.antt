@@ -1,8 +1,5 @@
 -- A trustee that is ready is tied to its sides above, and its launched work is latched.
-use Rattle.std.proofs.Common.{◌≡◌, ℕ, ◌⊎◌, ◌+◌, true, false, List, [], ◌∷◌, ◌++◌, map, inl, inr, refl, sym, ◌∙◌, ap, subst, append_assoc, append-nil, arith}
-use Rattle.std.specs.Prelude.{slice_get}
-use Rattle.std.specs.declared.option.Option.{Option}
-use Rattle.std.specs.declared.option.Option.TheVariants.{None, Some}
+use Rattle.std.proofs.Common.{◌≡◌, ℕ, ◌⊎◌, ◌+◌, false, List, [], ◌∷◌, ◌++◌, map, inl, inr, refl, sym, ◌∙◌, ap, subst, append_assoc, append-nil, arith}
 use Rattle.std.proofs.lemmas.List.{map-append}
 use Rattle.std.proofs.lemmas.Option.{slice_get_within}
 use Rattle.tm_seq.specs.Kind.{Kind}
@@ -19,10 +16,10 @@ use Rattle.tm_model.specs.State.{State}
 use Rattle.std.specs.List.{AllByRecursion}
 use Rattle.tm_core.proofs.Joins.{legal_logs_join}
 use Rattle.tm_core.proofs.Latching.{launches_are_latched}
-use Rattle.tm_pair.specs.Views.{BatchView, ClientView}
-use Rattle.tm_pair.specs.Sides.{HasRun, IsGoodClient}
+use Rattle.tm_pair.specs.Views.{ClientView}
+use Rattle.tm_pair.specs.Sides.{IsGoodClient}
 use Rattle.tm_pair.specs.Theory.{Theory, TheoryLaws}
-use Rattle.tm_trustee.specs.NestedAsks.{ToldReply, target, asks_of, replies_of, asked_by, replied_in, EndsInBye, HasSent, IsTied}
+use Rattle.tm_trustee.specs.NestedAsks.{ToldReply, target, asks_of, replies_of, asked_by, EndsInBye, HasSent, IsTied}
 use Rattle.tm_trustee.specs.Lanes.{IsLane}
 use Rattle.tm_trustee.specs.Laws.{AreTied, AreLatched}
 use Rattle.tm_trustee.specs.declared.lane.Lane.{Lane}
