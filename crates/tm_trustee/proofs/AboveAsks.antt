@@ -1,12 +1,11 @@
 -- Applies of objects that a place holds at first are orderly for a side that asked applies alone and has said no Bye.
-use Rattle.std.proofs.Common.{◌≡◌, ◌≢◌, ℕ, ◌+◌, ◌<◌, ◌≤◌, true, false, List, [], ◌∷◌, ◌++◌, length, refl, sym, ◌∙◌, ap, subst, arith}
+use Rattle.std.proofs.Common.{◌≡◌, ℕ, ◌≤◌, true, false, List, [], ◌∷◌, ◌++◌, refl, sym, ◌∙◌, subst, arith}
 use Rattle.std.specs.List.{AllByRecursion}
-use Rattle.tm_batch.specs.declared.limits.TheConstants.{WINDOW}
 use Rattle.tm_batch.specs.declared.message.Request.{Request}
 use Rattle.tm_batch.specs.declared.message.Request.TheVariants.{Entrust, Apply, Launch, Grant, Release, Reclaim, Bye}
 use Rattle.tm_model.specs.State.{State, holds_at}
-use Rattle.tm_model.specs.Holds.{Names, has_bye, launches_in, gave}
-use Rattle.tm_model.specs.Orderly.{IsOrderly, IsOfTrustee, GrantsBelow}
+use Rattle.tm_model.specs.Holds.{Names, has_bye, gave}
+use Rattle.tm_model.specs.Orderly.{IsOfTrustee, GrantsBelow}
 use Rattle.tm_core.proofs.Tallies.{gave-append, launches_in-append}
 use Rattle.tm_pair.specs.Views.{ClientView}
 use Rattle.tm_pair.specs.Calls.{MaySend}

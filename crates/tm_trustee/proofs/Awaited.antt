@@ -1,6 +1,6 @@
 -- What launched work awaits, after entries without resumes, and after a run of it.
-use Rattle.std.proofs.Common.{◌≡◌, ◌≢◌, ℕ, zero, suc, ◌+◌, ◌<◌, ◌≤◌, ◌⊎◌, Bool, true, false, cond, List, [], ◌∷◌, ◌++◌, length, map, drop, inl, inr, refl, sym, ◌∙◌, ap, subst, arith, eq-eqb, ne_eqb, append-nil, length-append, length-drop}
-use Rattle.std.specs.Prelude.{nat_eq, ◌==◌, ◌&&◌, nat_lt, slice_index_or}
+use Rattle.std.proofs.Common.{◌≡◌, ◌≢◌, ℕ, zero, suc, ◌+◌, ◌<◌, ◌≤◌, ◌⊎◌, cond, List, [], ◌∷◌, ◌++◌, length, map, drop, inl, inr, refl, sym, ◌∙◌, ap, subst, arith, eq-eqb, ne_eqb, append-nil, length-append, length-drop}
+use Rattle.std.specs.Prelude.{nat_eq, ◌==◌, slice_index_or}
 use Rattle.std.specs.List.{AllByRecursion, IsDistinct}
 use Rattle.std.proofs.lemmas.Bool.{cases_eq, cases_lt, lt-ltb, le-ltb}
 use Rattle.std.proofs.lemmas.List.{drop-append-le}
@@ -11,17 +11,17 @@ use Rattle.tm_seq.specs.declared.kind.Next.{Next}
 use Rattle.tm_seq.specs.declared.kind.Next.TheVariants.{Ask, Done}
 use Rattle.tm_model.specs.declared.entry.Entry.{Entry}
 use Rattle.tm_model.specs.declared.entry.Entry.TheVariants.{By, Resume, Sent}
-use Rattle.tm_model.specs.State.{Awaits, Start, AskOf, Work, Setup, State, ids_above, place_count}
+use Rattle.tm_model.specs.State.{Start, AskOf, Work, Setup, State, ids_above, place_count}
 use Rattle.tm_model.specs.Serve.{works_resumed, state_after}
 use Rattle.tm_model.specs.Legal.{HasFirst, IsLegal}
 use Rattle.tm_model.specs.Laws.{IsOpening}
-use Rattle.tm_core.proofs.CallerLemmas.{all_weaker, all_both, all-append, weaker_first}
+use Rattle.tm_core.proofs.CallerLemmas.{all_weaker, all_both, all-append}
 use Rattle.tm_core.proofs.Joins.{legal_logs_join, state-append}
 use Rattle.tm_core.proofs.Ordered.{IsOrdered, opening_ordered, log_ordered}
-use Rattle.tm_trustee.specs.NestedAsks.{NestedAsk, ToldReply, ask_of, asks_of, told_by, replies_of, pending_of, works_at, asks_at, is_ask_of, IsAmong}
+use Rattle.tm_trustee.specs.NestedAsks.{NestedAsk, ToldReply, ask_of, asks_of, told_by, replies_of, pending_of, works_at, is_ask_of, IsAmong}
 use Rattle.tm_trustee.specs.Awaiting.{IsAskAt, IsAskedBy, IsWaiting, AreAwaited}
 use Rattle.tm_trustee.specs.Serving.{resumes_in}
-use Rattle.tm_trustee.proofs.Among.{among_more, among_last, all_among, all_drop, apart_tail, distinct_tail, distinct_more}
+use Rattle.tm_trustee.proofs.Among.{among_more, among_last, apart_tail, distinct_tail, distinct_more}
 use Rattle.tm_trustee.proofs.Works.{Grew, quiet_grow, first_grew, grew_first, grew_behind}
 use Rattle.tm_trustee.proofs.Runs.{IsRunOf, asks_of-append, replies_of-append, quiet_asks, quiet_replies, run_asks, run_replies, run_works}
 

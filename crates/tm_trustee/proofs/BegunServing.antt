@@ -1,5 +1,5 @@
 -- A trustee that begins is one of its opening state, whose log is empty.
-use Rattle.std.proofs.Common.{◌≡◌, ℕ, zero, suc, ◌+◌, ◌==◌, true, false, List, [], ◌∷◌, ◌++◌, length, map, filter, inl, inr, refl, sym, ◌∙◌, ap, subst, arith, append-nil}
+use Rattle.std.proofs.Common.{◌≡◌, ℕ, ◌+◌, ◌==◌, true, false, List, [], ◌∷◌, ◌++◌, length, map, filter, inl, inr, refl, sym, ◌∙◌, ap, subst, arith, append-nil}
 use Rattle.std.specs.Prelude.{All, slice_get}
 use Rattle.std.specs.List.{AllByRecursion, AllZip, IsDistinct}
 use Rattle.std.specs.declared.option.Option.TheVariants.{None, Some}
@@ -31,7 +31,6 @@ use Rattle.tm_trustee.specs.Lanes.{IsAsker, IsLane, IsNewLane, AreNewLanes, AreC
 use Rattle.tm_trustee.specs.Serving.{AreNested, IsServing}
 use Rattle.tm_trustee.specs.Begun.{MayBegin, IsNewHome, IsNewSeat}
 use Rattle.tm_trustee.specs.declared.lane.Lane.{Lane}
-use Rattle.tm_trustee.specs.declared.stage.Stage.TheVariants.{Before}
 use Rattle.tm_trustee.specs.declared.trustee.Trustee.{Trustee}
 use Rattle.tm_trustee.proofs.Elements.{mapped_from}
 use Rattle.tm_trustee.proofs.HeldCounts.{held_are}

@@ -1,6 +1,6 @@
 -- What a trustee has of its launches is what the state says: the first of an object, and the entries of a launch that goes on.
-use Rattle.std.proofs.Common.{◌≡◌, ◌≢◌, ℕ, ◌+◌, ◌-◌, ◌<◌, ◌≤◌, ◌⊎◌, ◌==◌, true, false, cond, List, [], ◌∷◌, ◌++◌, length, map, filter, slice_index_or, inl, inr, refl, sym, ◌∙◌, ap, subst, arith, eq-eqb, ne_eqb}
-use Rattle.std.specs.Prelude.{find, IsSome}
+use Rattle.std.proofs.Common.{◌≡◌, ℕ, ◌<◌, ◌≤◌, List, [], ◌∷◌, map, inl, inr, refl, sym, ◌∙◌, ap, subst, eq-eqb, ne_eqb}
+use Rattle.std.specs.Prelude.{IsSome}
 use Rattle.std.specs.List.{AllByRecursion}
 use Rattle.std.specs.declared.option.Option.{Option}
 use Rattle.std.specs.declared.option.Option.TheVariants.{None, Some}
@@ -14,7 +14,7 @@ use Rattle.tm_latch.specs.declared.ticket.Ticket.{Ticket}
 use Rattle.tm_latch.specs.Tickets.{first_of, tickets_of}
 use Rattle.tm_model.specs.declared.entry.Entry.{Entry}
 use Rattle.tm_model.specs.declared.entry.Entry.TheVariants.{By, Resume, Sent}
-use Rattle.tm_model.specs.State.{Work, Object, Setup, State, ids_above, object_of}
+use Rattle.tm_model.specs.State.{Work, Object, Setup, State, object_of}
 use Rattle.tm_model.specs.Serve.{works_in}
 use Rattle.tm_core.proofs.CallerLemmas.{option_cases}
 use Rattle.tm_core.proofs.Finding.{all_found, found_id}

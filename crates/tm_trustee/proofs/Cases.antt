@@ -1,5 +1,5 @@
 -- Small logs of counters, worked by hand: what is asked of a greater trustee, what is told, and when the two are tied.
-use Rattle.std.proofs.Common.{◌≡◌, ℕ, true, List, [], ◌∷◌, ◌++◌, map, refl, inl, inr, lit<, lit≤}
+use Rattle.std.proofs.Common.{◌≡◌, ℕ, List, [], ◌∷◌, ◌++◌, map, refl, inl, inr, lit<, lit≤}
 use Rattle.tm_seq.specs.Counting.{counter_kind}
 use Rattle.tm_seq.specs.declared.kind.Event.TheVariants.{Begin, Reply, NotAbove, NoObject}
 use Rattle.tm_seq.specs.declared.kind.Next.TheVariants.{Ask, Done}
@@ -12,7 +12,6 @@ use Rattle.tm_seq.specs.declared.counter.CounterTask.{CounterTask}
 use Rattle.tm_seq.specs.declared.counter.CounterTask.TheVariants.{AskAt, Wait}
 use Rattle.tm_batch.specs.declared.message.Name.{Name}
 use Rattle.tm_batch.specs.declared.config.Config.{Config}
-use Rattle.tm_batch.specs.declared.message.Request.{Request}
 use Rattle.tm_batch.specs.declared.message.Request.TheVariants.{Apply, Launch, Bye}
 use Rattle.tm_batch.specs.declared.message.Answer.TheVariants.{Replied, Launched, ByeDone}
 use Rattle.tm_model.specs.declared.entry.Entry.{Entry}

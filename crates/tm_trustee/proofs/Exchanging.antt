@@ -1,26 +1,23 @@
 -- What an exchange at a side above does: answers came, nothing came, or asks were sent.
-use Rattle.std.proofs.Common.{◌≡◌, ◌≢◌, ℕ, ◌+◌, ◌-◌, ◌<◌, ◌≤◌, ◌⊎◌, Bool, true, false, cond, List, [], ◌∷◌, ◌++◌, length, map, take, drop, inl, inr, refl, sym, ◌∙◌, ap, subst, arith, length-append}
+use Rattle.std.proofs.Common.{◌≡◌, ◌+◌, ◌≤◌, Bool, true, false, [], ◌∷◌, ◌++◌, length, inl, inr, refl, sym, ◌∙◌, ap, subst, arith, length-append}
 use Rattle.std.specs.Prelude.{IsSome}
 use Rattle.std.specs.List.{AllByRecursion}
-use Rattle.std.specs.declared.option.Option.{Option}
 use Rattle.std.specs.declared.option.Option.TheVariants.{None, Some}
 use Rattle.tm_batch.specs.declared.limits.TheConstants.{MOST_REQUESTS}
-use Rattle.tm_batch.specs.declared.batch.Batch.{Batch}
-use Rattle.tm_batch.specs.declared.message.Request.{Request}
 use Rattle.tm_batch.specs.declared.message.AnswerBatch.{AnswerBatch}
 use Rattle.tm_model.specs.Holds.{has_bye}
 use Rattle.tm_model.specs.Orderly.{IsOfTrustee}
-use Rattle.tm_pair.specs.Views.{BatchView, ClientView}
-use Rattle.tm_pair.specs.Calls.{IsPending, Gets, Publishes, IsIdle}
+use Rattle.tm_pair.specs.Views.{ClientView}
+use Rattle.tm_pair.specs.Calls.{IsPending, Gets, IsIdle}
 use Rattle.tm_seq.specs.Kind.{Kind}
 use Rattle.tm_model.specs.Ran.{ran}
 use Rattle.tm_model.specs.State.{State}
 use Rattle.tm_pair.specs.Sides.{HasRun, IsGoodClient}
 use Rattle.tm_pair.specs.Theory.{Theory, KeepsSides}
-use Rattle.tm_trustee.specs.Above.{one_if, published, moves_up, IsAt, Counts}
+use Rattle.tm_trustee.specs.Above.{one_if, moves_up, IsAt, Counts}
 use Rattle.tm_trustee.specs.AboveAt.{MovesUp}
-use Rattle.tm_trustee.specs.Lanes.{TakesIn, LetsGo, after_answers_lem}
-use Rattle.tm_trustee.specs.Steps.{AppliesHeld, MaySendAsks, SendsWaits, TakesAnswers, FindsNothing, SendsFirst, ExchangesLane}
+use Rattle.tm_trustee.specs.Lanes.{after_answers_lem}
+use Rattle.tm_trustee.specs.Steps.{AppliesHeld, MaySendAsks, SendsWaits, TakesAnswers, FindsNothing, ExchangesLane}
 use Rattle.tm_trustee.specs.declared.lane.Lane.{Lane}
 use Rattle.tm_trustee.specs.declared.stage.Stage.{Stage}
 use Rattle.tm_trustee.specs.declared.stage.Stage.TheVariants.{Before, Out, Over}

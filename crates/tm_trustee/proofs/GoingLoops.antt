@@ -1,10 +1,9 @@
 -- A trustee tells a reply that came, or begins a launch, and notes what the launch did last.
-use Rattle.std.proofs.Common.{◌≡◌, ◌≢◌, ℕ, zero, suc, ◌+◌, ◌-◌, ◌^◌, ◌<◌, ◌≤◌, ◌⊎◌, ◌==◌, true, false, cond, min, List, [], ◌∷◌, ◌++◌, length, map, inl, inr, refl, sym, ◌∙◌, ap, subst, arith, append_assoc, append-nil, length-append, length-set, length-drop, eq-eqb, ne_eqb}
+use Rattle.std.proofs.Common.{◌≡◌, ◌≢◌, ℕ, ◌+◌, ◌-◌, ◌<◌, ◌≤◌, ◌==◌, cond, List, [], ◌∷◌, ◌++◌, length, inl, inr, refl, sym, ◌∙◌, ap, subst, arith, append_assoc, append-nil, length-append, length-set, length-drop, eq-eqb, ne_eqb}
 use Rattle.std.specs.Prelude.{slice_get, slice_set}
 use Rattle.std.specs.List.{AllByRecursion, AllZip}
 use Rattle.std.specs.declared.option.Option.{Option}
 use Rattle.std.specs.declared.option.Option.TheVariants.{None, Some}
-use Rattle.std.proofs.lemmas.Bool.{cases_eq}
 use Rattle.std.proofs.lemmas.List.{length-map}
 use Rattle.std.proofs.lemmas.Option.{slice_get_within}
 use Rattle.tm_seq.specs.Kind.{Kind}
@@ -26,11 +25,11 @@ use Rattle.tm_state.specs.declared.resumed.Resumed.{Resumed}
 use Rattle.tm_state.specs.declared.resumed.Resumed.TheVariants.{Asked, Ended}
 use Rattle.tm_trustee.specs.Awaiting.{IsAskAt}
 use Rattle.tm_trustee.specs.Lanes.{IsAsker, IsLane}
-use Rattle.tm_trustee.specs.NestedAsks.{NestedAsk, ToldReply, target, asks_of, told_by, replies_of, pending_of, works_at, asked_by}
+use Rattle.tm_trustee.specs.NestedAsks.{NestedAsk, target, asks_of, told_by, replies_of, pending_of, works_at, asked_by}
 use Rattle.tm_trustee.specs.Serving.{AreTold}
-use Rattle.tm_trustee.specs.Tasks.{TakesReply, MayNote, Notes, AreGoing, GoesOnWith, SameCame, MadeMore, IsGoingOn, ResumesMade}
+use Rattle.tm_trustee.specs.Tasks.{TakesReply, MayNote, Notes, AreGoing, SameCame, MadeMore, IsGoingOn}
 use Rattle.tm_trustee.specs.declared.lane.Lane.{Lane}
-use Rattle.tm_trustee.proofs.Awaited.{IsToldRightly, begin_tells, reply_tells}
+use Rattle.tm_trustee.proofs.Awaited.{IsToldRightly, reply_tells}
 use Rattle.tm_trustee.proofs.Bridging.{works_first}
 use Rattle.tm_trustee.proofs.Elements.{element_at, same_element, set_cases, set_here, set_other, there_as}
 use Rattle.tm_trustee.proofs.GoingOn.{noted_many, may_note, are_going, only_resumes}

@@ -1,12 +1,11 @@
 -- A launch goes on: what a trustee has, and each lane, is as what it has done then says.
-use Rattle.std.proofs.Common.{◌≡◌, ◌≢◌, ℕ, zero, suc, ◌+◌, ◌-◌, ◌<◌, ◌≤◌, ◌⊎◌, true, false, List, [], ◌∷◌, ◌++◌, length, map, slice_index_or, inl, inr, refl, sym, ◌∙◌, ap, subst, arith, append_assoc, append-nil, length-append, length-set, length-drop, ne_eqb}
-use Rattle.std.specs.Prelude.{slice_get, slice_set, ◌&&◌, nat_lt, cond}
+use Rattle.std.proofs.Common.{◌≡◌, ◌≢◌, ℕ, ◌+◌, ◌-◌, ◌<◌, ◌≤◌, true, false, List, [], ◌∷◌, ◌++◌, length, map, slice_index_or, inl, inr, refl, sym, ◌∙◌, ap, subst, arith, append_assoc, length-append, length-set, length-drop, ne_eqb}
+use Rattle.std.specs.Prelude.{slice_get}
 use Rattle.std.specs.List.{AllByRecursion, AllZip}
 use Rattle.std.specs.declared.option.Option.TheVariants.{Some}
-use Rattle.std.proofs.lemmas.Bool.{cases_eq, cases_lt}
+use Rattle.std.proofs.lemmas.Bool.{cases_lt}
 use Rattle.std.proofs.lemmas.List.{length-map, get_or_past}
 use Rattle.std.proofs.lemmas.List.FromFn.{length-map-range_with_len}
-use Rattle.std.proofs.lemmas.Option.{slice_get_within}
 use Rattle.tm_seq.specs.Kind.{Kind}
 use Rattle.tm_seq.specs.declared.kind.Event.{Event}
 use Rattle.tm_seq.specs.declared.kind.Next.{Next}
@@ -20,7 +19,6 @@ use Rattle.tm_model.specs.Laws.{IsOpening}
 use Rattle.tm_model.specs.Legal.{HasFirst, IsLegal}
 use Rattle.tm_model.specs.Serve.{works_resumed, state_after}
 use Rattle.tm_model.specs.State.{AskOf, Work, Setup, State, ids_above}
-use Rattle.tm_core.proofs.CallerLemmas.{all_weaker}
 use Rattle.tm_core.proofs.Sound.{states_are_sound}
 use Rattle.tm_latch.specs.declared.ticket.Ticket.{Ticket}
 use Rattle.tm_latch.specs.Tickets.{first_of}
@@ -36,7 +34,7 @@ use Rattle.tm_trustee.specs.Above.{IsAt}
 use Rattle.tm_trustee.specs.Awaiting.{IsAskAt, AreAwaited}
 use Rattle.tm_trustee.specs.Lanes.{IsAsker, IsLane}
 use Rattle.tm_trustee.specs.NestedAsks.{NestedAsk, ToldReply, target, ask_of, asks_of, told_by, replies_of, pending_of, works_at, asked_by, AppliesAmong}
-use Rattle.tm_trustee.specs.Serving.{AreLanes, AreSaid}
+use Rattle.tm_trustee.specs.Serving.{AreLanes}
 use Rattle.tm_trustee.specs.Tasks.{AsksAt, HasPlace, MayNote, Notes, AreGoing}
 use Rattle.tm_trustee.specs.declared.lane.Lane.{Lane}
 use Rattle.tm_trustee.specs.declared.stage.Stage.{Stage}

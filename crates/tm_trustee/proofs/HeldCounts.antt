@@ -1,16 +1,14 @@
 -- How many objects a trustee holds at each greater one is how many names its new lanes have.
-use Rattle.std.proofs.Common.{◌≡◌, ℕ, zero, suc, ◌+◌, ◌-◌, ◌^◌, ◌<◌, ◌≤◌, ◌==◌, true, false, cond, List, [], ◌∷◌, length, map, filter, slice_index_or, inl, inr, refl, sym, ◌∙◌, ap, subst, arith}
+use Rattle.std.proofs.Common.{◌≡◌, ℕ, suc, ◌+◌, ◌-◌, ◌^◌, ◌<◌, ◌≤◌, ◌==◌, true, false, cond, List, [], ◌∷◌, length, filter, inl, inr, sym, ◌∙◌, ap, subst, arith}
 use Rattle.std.specs.Prelude.{slice_get, nat_lt}
-use Rattle.std.specs.List.{range_with_len}
 use Rattle.std.specs.declared.option.Option.TheVariants.{Some}
-use Rattle.std.proofs.lemmas.Bool.{cases_lt, lt-ltb, le-ltb}
+use Rattle.std.proofs.lemmas.Bool.{cases_lt, le-ltb}
 use Rattle.std.proofs.lemmas.List.{length-map, get_or_past}
 use Rattle.std.proofs.lemmas.List.FromFn.{get_or-map-range_with_len, length-map-range_with_len}
 use Rattle.tm_batch.specs.declared.config.Config.{Config}
 use Rattle.tm_batch.specs.declared.config.First.{First}
-use Rattle.tm_batch.specs.declared.limits.TheConstants.{MOST_OBJECTS}
 use Rattle.tm_batch.specs.declared.message.Name.{Name}
-use Rattle.tm_model.specs.Opening.{IsBuildable, is_named, placed_on, ids_naming, ids_at, opening_of}
+use Rattle.tm_model.specs.Opening.{is_named, placed_on, ids_naming, ids_at}
 use Rattle.tm_model.specs.State.{State, ids_above}
 use Rattle.tm_state.specs.Resuming.{AreHeld}
 use Rattle.tm_trustee.specs.Begun.{MayBegin}

@@ -1,13 +1,10 @@
 -- A place that said Bye has nothing unfinished and nothing ready: it stays so, and where all have said it no ask is pending.
-use Rattle.std.proofs.Common.{◌≡◌, ◌≢◌, ℕ, zero, suc, ◌+◌, ◌<◌, ◌≤◌, ◌⊎◌, true, false, cond, List, [], ◌∷◌, ◌++◌, length, inl, inr, refl, sym, ◌∙◌, ap, subst, arith, append_assoc, append-nil, eq-eqb, ne_eqb}
-use Rattle.std.specs.Prelude.{IsSomeAnd, ◌==◌}
+use Rattle.std.proofs.Common.{◌≡◌, ◌≢◌, ℕ, ◌+◌, ◌<◌, ◌≤◌, true, List, [], ◌∷◌, ◌++◌, length, inl, inr, refl, sym, ◌∙◌, ap, subst, arith, append-nil, eq-eqb, ne_eqb}
 use Rattle.std.specs.List.{AllByRecursion}
-use Rattle.std.specs.declared.option.Option.{Option}
-use Rattle.std.specs.declared.option.Option.TheVariants.{None, Some}
+use Rattle.std.specs.declared.option.Option.TheVariants.{Some}
 use Rattle.std.proofs.lemmas.Bool.{cases_eq}
 use Rattle.tm_seq.specs.Kind.{Kind}
 use Rattle.tm_batch.specs.declared.message.Request.{Request}
-use Rattle.tm_batch.specs.declared.message.Request.TheVariants.{Bye}
 use Rattle.tm_batch.specs.declared.message.Answer.{Answer}
 use Rattle.tm_model.specs.declared.entry.Entry.{Entry}
 use Rattle.tm_model.specs.declared.entry.Entry.TheVariants.{Sent}
@@ -15,11 +12,11 @@ use Rattle.tm_model.specs.State.{Work, Object, State, object_of, place_of, place
 use Rattle.tm_model.specs.Serve.{works_in, state_after}
 use Rattle.tm_model.specs.Legal.{HasFirst, IsLegal}
 use Rattle.tm_model.specs.Entries.{AreResumes, added, entries_by}
-use Rattle.tm_model.specs.Holds.{has_bye, launches_in, ended_in, unfinished, works_of}
-use Rattle.tm_model.specs.Laws.{IsOpening, IsSound, IsSoundObject, IsPromised}
+use Rattle.tm_model.specs.Holds.{has_bye, launches_in, unfinished, works_of}
+use Rattle.tm_model.specs.Laws.{IsOpening, IsSoundObject, IsPromised}
 use Rattle.tm_model.specs.Ran.{ran, mark_of}
 use Rattle.tm_core.proofs.CallerLemmas.{option_cases, all_weaker}
-use Rattle.tm_core.proofs.Finding.{all_found, found_id}
+use Rattle.tm_core.proofs.Finding.{all_found}
 use Rattle.tm_core.proofs.Joins.{legal_logs_join, state-append}
 use Rattle.tm_core.proofs.LaunchLog.{log_launches}
 use Rattle.tm_core.proofs.Marks.{ran-append}

@@ -1,5 +1,5 @@
 -- What a lane is stays so: after entries without resumes, after answers came or asks were sent, and after a Bye was said.
-use Rattle.std.proofs.Common.{◌≡◌, ◌≢◌, ℕ, zero, suc, ◌+◌, ◌<◌, ◌≤◌, ◌⊎◌, true, false, List, [], ◌∷◌, ◌++◌, length, map, take, drop, inl, inr, refl, sym, ◌∙◌, ap, subst, arith, append_assoc, append-nil, length-append, eq-eqb}
+use Rattle.std.proofs.Common.{◌≡◌, ◌≢◌, ℕ, zero, suc, ◌+◌, ◌≤◌, false, List, [], ◌∷◌, ◌++◌, length, map, take, drop, inl, inr, refl, sym, ◌∙◌, ap, subst, arith, append_assoc, append-nil, length-append, eq-eqb}
 use Rattle.std.specs.List.{AllByRecursion, AllZip}
 use Rattle.std.specs.declared.option.Option.{Option}
 use Rattle.std.specs.declared.option.Option.TheVariants.{None, Some}
@@ -11,30 +11,27 @@ use Rattle.tm_batch.specs.declared.message.Request.TheVariants.{Entrust, Apply, 
 use Rattle.tm_batch.specs.declared.message.Answer.{Answer}
 use Rattle.tm_batch.specs.declared.message.AnswerBatch.{AnswerBatch}
 use Rattle.tm_model.specs.declared.entry.Entry.{Entry}
-use Rattle.tm_model.specs.declared.entry.Entry.TheVariants.{By, Sent}
-use Rattle.tm_model.specs.State.{State, ids_above, place_count}
+use Rattle.tm_model.specs.declared.entry.Entry.TheVariants.{Sent}
+use Rattle.tm_model.specs.State.{State, ids_above}
 use Rattle.tm_model.specs.Serve.{state_after}
-use Rattle.tm_model.specs.Legal.{IsLegal, HasFirst}
+use Rattle.tm_model.specs.Legal.{IsLegal}
 use Rattle.tm_model.specs.Entries.{batch_entries, entries_by}
 use Rattle.tm_model.specs.Fits.{Fits}
-use Rattle.tm_model.specs.Holds.{has_bye, answers_in}
+use Rattle.tm_model.specs.Holds.{has_bye}
 use Rattle.tm_model.specs.Laws.{IsOpening}
 use Rattle.tm_model.specs.Lists.{IsPrefix}
-use Rattle.tm_model.specs.Orderly.{IsOfTrustee}
 use Rattle.tm_model.specs.Ran.{ran, answered, mark_of}
-use Rattle.tm_model.specs.Batches.{batches}
 use Rattle.tm_core.proofs.AllAnswers.{as_many}
 use Rattle.tm_core.proofs.Longer.{answered-append}
-use Rattle.tm_core.proofs.CallerLemmas.{all_weaker, all-append}
 use Rattle.tm_core.proofs.ClientAnswers.{answers_are_as_many, answers_fit}
 use Rattle.tm_core.proofs.Finding.{no_items}
 use Rattle.tm_core.proofs.Lists.{front_empty}
 use Rattle.tm_core.proofs.Marks.{ran-append}
 use Rattle.tm_pair.specs.Views.{BatchView, ClientView}
-use Rattle.tm_pair.specs.Calls.{IsPending, AreAnswers, Gets, Publishes}
+use Rattle.tm_pair.specs.Calls.{IsPending, Gets, Publishes}
 use Rattle.tm_pair.specs.Sides.{HasRun, IsGoodClient}
 use Rattle.tm_state.specs.Launches.{work_of}
-use Rattle.tm_trustee.specs.NestedAsks.{target, asks_of, replies_of, pending_of, works_at, asked_by, replied_in, AppliesAmong, EndsInBye, IsApply}
+use Rattle.tm_trustee.specs.NestedAsks.{target, asks_of, replies_of, pending_of, works_at, asked_by, replied_in, AppliesAmong, EndsInBye}
 use Rattle.tm_trustee.specs.Lanes.{IsAsker, IsLane, TakesIn, LetsGo}
 use Rattle.tm_trustee.specs.Serving.{resumes_in}
 use Rattle.tm_trustee.specs.declared.lane.Lane.{Lane}

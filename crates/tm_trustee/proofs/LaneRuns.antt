@@ -1,5 +1,5 @@
 -- A lane after a run of launched work: the replies that were told are gone, and what was asked waits.
-use Rattle.std.proofs.Common.{◌≡◌, ◌≢◌, ℕ, zero, suc, ◌+◌, ◌<◌, ◌≤◌, ◌⊎◌, true, false, List, [], ◌∷◌, ◌++◌, length, map, drop, inl, inr, refl, sym, ◌∙◌, ap, subst, arith, append_assoc, append-nil, length-append}
+use Rattle.std.proofs.Common.{◌≡◌, ◌≢◌, ℕ, zero, suc, ◌⊎◌, true, false, List, [], ◌∷◌, ◌++◌, length, map, drop, inl, inr, refl, sym, ◌∙◌, ap, subst, arith, append_assoc, append-nil, length-append}
 use Rattle.std.specs.List.{AllByRecursion, AllZip}
 use Rattle.std.proofs.lemmas.List.{map-append, length-map}
 use Rattle.std.proofs.Math.Seq.{drop-append_seam}
@@ -7,9 +7,8 @@ use Rattle.tm_seq.specs.Kind.{Kind}
 use Rattle.tm_batch.specs.declared.message.Request.{Request}
 use Rattle.tm_batch.specs.declared.message.Request.TheVariants.{Bye}
 use Rattle.tm_model.specs.declared.entry.Entry.{Entry}
-use Rattle.tm_model.specs.State.{Work, State, ids_above}
+use Rattle.tm_model.specs.State.{State, ids_above}
 use Rattle.tm_model.specs.Serve.{state_after}
-use Rattle.tm_model.specs.Legal.{HasFirst}
 use Rattle.tm_model.specs.Holds.{has_bye}
 use Rattle.tm_model.specs.Lists.{IsPrefix}
 use Rattle.tm_model.specs.Ran.{answered}
@@ -18,8 +17,8 @@ use Rattle.tm_core.proofs.Lists.{front_empty}
 use Rattle.tm_core.proofs.Tallies.{bye_at}
 use Rattle.tm_latch.specs.declared.ticket.Ticket.{Ticket}
 use Rattle.tm_pair.specs.Views.{ClientView}
-use Rattle.tm_state.specs.Launches.{Pending, work_of}
-use Rattle.tm_trustee.specs.NestedAsks.{NestedAsk, ToldReply, target, asks_of, replies_of, pending_of, works_at, asked_by, replied_in, EndsInBye, AppliesAmong}
+use Rattle.tm_state.specs.Launches.{Pending}
+use Rattle.tm_trustee.specs.NestedAsks.{NestedAsk, ToldReply, target, asks_of, replies_of, pending_of, asked_by, replied_in, EndsInBye, AppliesAmong}
 use Rattle.tm_trustee.specs.Lanes.{IsAsker, IsLane}
 use Rattle.tm_trustee.specs.declared.lane.Lane.{Lane}
 use Rattle.tm_trustee.proofs.Replied.{asked_by-append}

@@ -1,5 +1,5 @@
 -- What a lane is after the launch that asked first was told its reply, and after an ask waits at it.
-use Rattle.std.proofs.Common.{◌≡◌, ◌≢◌, ℕ, zero, suc, ◌+◌, ◌<◌, ◌≤◌, true, List, [], ◌∷◌, ◌++◌, length, map, slice_index_or, inl, inr, refl, sym, ◌∙◌, ap, subst, arith, append-nil, length-append}
+use Rattle.std.proofs.Common.{◌≡◌, ℕ, zero, suc, ◌≤◌, true, List, [], ◌∷◌, ◌++◌, length, map, slice_index_or, inl, inr, refl, sym, ◌∙◌, ap, subst, arith, append-nil}
 use Rattle.std.specs.Prelude.{nat_eq, slice_get, ◌||◌}
 use Rattle.std.specs.Cmp.{nat_eq_equiv}
 use Rattle.std.specs.List.{AllByRecursion, AllZip, IsDistinct, list_any}
@@ -17,7 +17,7 @@ use Rattle.tm_model.specs.State.{Work, Object, State, object_of}
 use Rattle.tm_model.specs.Serve.{works_in}
 use Rattle.tm_model.specs.Legal.{HasFirst}
 use Rattle.tm_state.specs.Launches.{Pending}
-use Rattle.tm_trustee.specs.NestedAsks.{NestedAsk, ToldReply, target, asked_by, works_at, AppliesAmong, IsAmong}
+use Rattle.tm_trustee.specs.NestedAsks.{NestedAsk, ToldReply, target, asked_by, AppliesAmong, IsAmong}
 use Rattle.tm_trustee.specs.Lanes.{IsAsker}
 use Rattle.tm_trustee.specs.Tasks.{AsksAt, TakesReply}
 use Rattle.tm_trustee.specs.declared.lane.Lane.{Lane}

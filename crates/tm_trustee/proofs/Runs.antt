@@ -1,6 +1,6 @@
 -- What a run of launched work asks and is told, from an event until it asks an object that is held above or ends, and which launches it leaves.
-use Rattle.std.proofs.Common.{◌≡◌, ◌≢◌, ℕ, ◌+◌, ◌<◌, ◌≤◌, ◌⊎◌, Bool, true, false, cond, List, [], ◌∷◌, ◌++◌, length, inl, inr, refl, sym, ◌∙◌, ap, subst, arith, eq-eqb, ne_eqb, append_assoc, append-nil}
-use Rattle.std.specs.Prelude.{◌==◌, ◌&&◌, nat_lt}
+use Rattle.std.proofs.Common.{◌≡◌, ◌≢◌, ℕ, ◌<◌, ◌≤◌, ◌⊎◌, false, cond, List, [], ◌∷◌, ◌++◌, length, inl, inr, refl, sym, ◌∙◌, ap, subst, arith, eq-eqb, ne_eqb, append_assoc, append-nil}
+use Rattle.std.specs.Prelude.{◌==◌, nat_lt}
 use Rattle.std.proofs.lemmas.Bool.{cases_eq, le-ltb}
 use Rattle.tm_seq.specs.Kind.{Kind}
 use Rattle.tm_seq.specs.declared.kind.Event.{Event}
@@ -9,12 +9,12 @@ use Rattle.tm_seq.specs.declared.kind.Next.{Next}
 use Rattle.tm_seq.specs.declared.kind.Next.TheVariants.{Ask, Done}
 use Rattle.tm_model.specs.declared.entry.Entry.{Entry}
 use Rattle.tm_model.specs.declared.entry.Entry.TheVariants.{By, Resume, Sent}
-use Rattle.tm_model.specs.State.{AskOf, Work, Setup, State, ids_above}
+use Rattle.tm_model.specs.State.{Work, Setup, State, ids_above}
 use Rattle.tm_model.specs.Serve.{works_resumed, after, state_after}
-use Rattle.tm_model.specs.Legal.{MayCome, IsLegal}
+use Rattle.tm_model.specs.Legal.{IsLegal}
 use Rattle.tm_model.specs.Entries.{AreResumes}
 use Rattle.tm_core.proofs.Ordered.{IsOrdered, after_ordered}
-use Rattle.tm_trustee.specs.NestedAsks.{NestedAsk, ToldReply, ask_of, asks_of, told_by, replies_of, works_at}
+use Rattle.tm_trustee.specs.NestedAsks.{NestedAsk, ask_of, asks_of, told_by, replies_of, works_at}
 use Rattle.tm_trustee.specs.Serving.{resumes_in}
 use Rattle.tm_trustee.proofs.Works.{works_after}
 

@@ -1,23 +1,22 @@
 -- What holds while a trustee tells replies that came and begins launches, one after another.
-use Rattle.std.proofs.Common.{◌≡◌, ◌≢◌, ℕ, ◌+◌, ◌-◌, ◌^◌, ◌<◌, ◌≤◌, ◌⊎◌, List, [], ◌++◌, length, inl, inr, refl, sym, ◌∙◌, ap, subst, arith, length-set}
-use Rattle.std.specs.Prelude.{slice_get, slice_set}
+use Rattle.std.proofs.Common.{◌≡◌, ℕ, ◌+◌, ◌<◌, ◌≤◌, List, [], length, inl, inr, refl, sym, ◌∙◌, ap, subst, arith, length-set}
+use Rattle.std.specs.Prelude.{slice_get}
 use Rattle.std.specs.declared.option.Option.TheVariants.{Some}
 use Rattle.std.proofs.lemmas.Bool.{cases_eq}
 use Rattle.std.proofs.lemmas.Option.{slice_get_within}
 use Rattle.tm_seq.specs.Kind.{Kind}
 use Rattle.tm_seq.specs.declared.kind.Event.TheVariants.{Begin, Reply}
 use Rattle.tm_model.specs.declared.entry.Entry.{Entry}
-use Rattle.tm_model.specs.State.{Start, State}
+use Rattle.tm_model.specs.State.{Start}
 use Rattle.tm_latch.specs.declared.ticket.Ticket.{Ticket}
 use Rattle.tm_latch.specs.Tickets.{first_of}
-use Rattle.tm_pair.specs.Views.{ClientView}
 use Rattle.tm_state.specs.Launches.{Pending}
-use Rattle.tm_state.specs.Resuming.{Makes, HasGoneOn, IsResumable, KeepsOn}
+use Rattle.tm_state.specs.Resuming.{Makes, HasGoneOn, KeepsOn}
 use Rattle.tm_state.specs.StateView.{StateView}
 use Rattle.tm_state.specs.declared.made.Made.{Made}
 use Rattle.tm_state.specs.declared.resumed.Resumed.{Resumed}
 use Rattle.tm_trustee.specs.Serving.{AreTold}
-use Rattle.tm_trustee.specs.Tasks.{TakesReply, TakesAt, HasAskers, IsToldAt, MayNote, Notes, AreGoing, IsGoingOn, GoesOnWith, SameCame, MadeMore}
+use Rattle.tm_trustee.specs.Tasks.{TakesAt, HasAskers, IsToldAt, MayNote, Notes, IsGoingOn, GoesOnWith, SameCame, MadeMore}
 use Rattle.tm_trustee.specs.declared.lane.Lane.{Lane}
 use Rattle.tm_trustee.proofs.Elements.{same_element, there_as}
 use Rattle.tm_trustee.proofs.GoingOn.{noted_many}

@@ -20,16 +20,16 @@ use Rattle.tm_model.specs.Holds.{has_bye}
 use Rattle.tm_pair.specs.Views.{BatchView, ClientView}
 use Rattle.tm_pair.specs.Theory.{Theory, TheoryLaws}
 use Rattle.tm_state.specs.Asking.{HaveAllEnded, TellsEnd}
-use Rattle.tm_trustee.specs.Above.{unsent, ExchangesAt, SaysByeAt}
+use Rattle.tm_trustee.specs.Above.{SaysByeAt}
 use Rattle.tm_trustee.specs.AboveAt.{IsAbove, EachAt, EachLane, NeedAll}
 use Rattle.tm_trustee.specs.Lanes.{IsLane, after_answers_lem}
-use Rattle.tm_trustee.specs.Serving.{AreLanes, AreSaid, AreTold, IsServing, done_by, ups_of}
+use Rattle.tm_trustee.specs.Serving.{done_by}
 use Rattle.tm_trustee.specs.Steps.{MaySendAsks, ExchangesLane, MaySayBye, SaysByeLane}
 use Rattle.tm_trustee.specs.Tables.{AreAmong, KeepsAbove, IsReady, IsMidway}
 use Rattle.tm_trustee.specs.Turn.{ExchangesAll}
 use Rattle.tm_trustee.specs.declared.lane.Lane.{Lane}
 use Rattle.tm_trustee.specs.declared.stage.Stage.{Stage}
-use Rattle.tm_trustee.specs.declared.stage.Stage.TheVariants.{Before, Out, Over}
+use Rattle.tm_trustee.specs.declared.stage.Stage.TheVariants.{Before}
 use Rattle.tm_trustee.specs.declared.trustee.Trustee.{Trustee}
 use Rattle.tm_trustee.proofs.Elements.{there_too, element_at, same_element, mapped, mapped_from}
 use Rattle.tm_trustee.proofs.HeldAbove.{holds_above}
@@ -38,7 +38,7 @@ use Rattle.tm_trustee.proofs.AboveBye.{before_bye}
 use Rattle.tm_trustee.proofs.LaneKeeps.{seen_fits, seen_replies}
 use Rattle.tm_trustee.proofs.Replied.{replied_few, asked_by-append}
 use Rattle.tm_trustee.proofs.Resuming.{same_ran}
-use Rattle.tm_trustee.proofs.TurningLanes.{all_held, exchanged_lane, exchanged_side, said_lane, said_side}
+use Rattle.tm_trustee.proofs.TurningLanes.{all_held, exchanged_lane, exchanged_side, said_lane}
 use Rattle.tm_trustee.proofs.TurningReady.{at_home, own_table, ready_mid, mid_ready, above_midway}
 
 module _ {V O R T Table Client Owner : Type 0} (theory : Theory V O R T Table Client Owner) where

@@ -1,34 +1,26 @@
 -- What exchanges and Byes at all sides above leave of a trustee's lanes.
-use Rattle.std.proofs.Common.{◌≡◌, ◌≢◌, ℕ, zero, suc, ◌+◌, ◌<◌, ◌≤◌, ◌⊎◌, true, false, cond, List, [], ◌∷◌, ◌++◌, length, map, take, drop, inl, inr, refl, sym, ◌∙◌, ap, subst, arith, length-append, append-nil}
-use Rattle.std.specs.Prelude.{slice_get, IsSome, slice_index_or, ◌==◌}
-use Rattle.std.specs.List.{AllByRecursion, AllZip, list_any}
-use Rattle.std.specs.declared.option.Option.{Option}
-use Rattle.std.specs.declared.option.Option.TheVariants.{None, Some}
+use Rattle.std.proofs.Common.{◌≡◌, ◌≢◌, ℕ, zero, suc, ◌≤◌, true, false, List, [], ◌∷◌, length, take, drop, inl, inr, refl, sym, ◌∙◌, ap, subst}
+use Rattle.std.specs.Prelude.{IsSome}
+use Rattle.std.specs.List.{AllByRecursion}
 use Rattle.std.proofs.Math.Seq.{drop-append_seam}
-use Rattle.std.proofs.lemmas.Option.{slice_get_within}
 use Rattle.tm_seq.specs.Kind.{Kind}
 use Rattle.tm_batch.specs.declared.limits.TheConstants.{MOST_REQUESTS}
-use Rattle.tm_batch.specs.declared.config.Config.{Config}
-use Rattle.tm_batch.specs.declared.config.First.{First}
 use Rattle.tm_batch.specs.declared.message.Request.{Request}
 use Rattle.tm_batch.specs.declared.message.Request.TheVariants.{Entrust, Apply, Launch, Grant, Release, Reclaim, Bye}
 use Rattle.tm_model.specs.declared.entry.Entry.{Entry}
-use Rattle.tm_model.specs.State.{State, holds_at, ids_above, place_count}
-use Rattle.tm_model.specs.Opening.{ids_at, opening_of}
-use Rattle.tm_model.specs.Holds.{has_bye}
-use Rattle.tm_pair.specs.Views.{BatchView, ClientView}
+use Rattle.tm_model.specs.State.{State, holds_at, ids_above}
+use Rattle.tm_pair.specs.Views.{ClientView}
 use Rattle.tm_pair.specs.Calls.{Publishes}
 use Rattle.tm_pair.specs.Sides.{IsGoodClient}
 use Rattle.tm_pair.specs.Theory.{Theory, TheoryLaws, KeepsSides}
 use Rattle.tm_pair.specs.declared.moves.Move.TheVariants.{Publish}
 use Rattle.tm_pair.specs.declared.table.Collected.TheVariants.{Answers, Pending}
-use Rattle.tm_trustee.specs.NestedAsks.{target, asks_of, asked_by, AppliesAmong, EndsInBye, IsAmong, IsApply}
+use Rattle.tm_trustee.specs.NestedAsks.{asked_by, AppliesAmong, IsAmong, IsApply}
 use Rattle.tm_trustee.specs.Above.{unsent, ExchangesAt, SaysByeAt}
-use Rattle.tm_trustee.specs.Lanes.{IsLane, TakesIn, LetsGo}
-use Rattle.tm_trustee.specs.Steps.{AppliesHeld, MaySendAsks, ExchangesLane, SaysByeLane}
+use Rattle.tm_trustee.specs.Lanes.{IsLane}
+use Rattle.tm_trustee.specs.Steps.{AppliesHeld, ExchangesLane, SaysByeLane}
 use Rattle.tm_trustee.specs.declared.lane.Lane.{Lane}
 use Rattle.tm_trustee.proofs.LaneKeeps.{lane_takes, lane_waits, lane_sends, lane_says}
-use Rattle.tm_trustee.proofs.LaneRuns.{bye_ends}
 use Rattle.tm_trustee.proofs.Replied.{asked_by-append}
 
 module _ {V O R T : Type 0} where

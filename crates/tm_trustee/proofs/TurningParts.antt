@@ -1,5 +1,5 @@
 -- A turn, from its parts: it exchanges above, goes on with launched work, serves its own table, and says Bye above.
-use Rattle.std.proofs.Common.{◌≡◌, ℕ, ◌+◌, ◌-◌, ◌^◌, ◌<◌, ◌↔◌, min, IsTrue, Bool, true, List, [], ◌∷◌, ◌++◌, length, map, refl, sym, ◌∙◌, ap, subst, arith, append_assoc}
+use Rattle.std.proofs.Common.{◌≡◌, ℕ, ◌+◌, ◌-◌, ◌^◌, ◌↔◌, min, IsTrue, Bool, true, List, [], ◌∷◌, ◌++◌, length, map, refl, sym, ◌∙◌, ap, subst, arith, append_assoc}
 use Rattle.std.specs.Prelude.{All, slice_get}
 use Rattle.std.specs.declared.option.Option.TheVariants.{Some}
 use Rattle.tm_seq.specs.Kind.{Kind}
@@ -14,7 +14,7 @@ use Rattle.tm_core.proofs.Joins.{state-append}
 use Rattle.tm_state.specs.Represents.{Represents}
 use Rattle.tm_state.specs.Asking.{HaveAllEnded, TellsEnd}
 use Rattle.tm_pair.specs.Theory.{Theory, TheoryLaws}
-use Rattle.tm_trustee.specs.Above.{unsent, Exchanges, SaysBye, ExchangesAt, SaysByeAt, GoesUpAt, Each, all_moves_up}
+use Rattle.tm_trustee.specs.Above.{unsent, Exchanges, SaysBye, SaysByeAt, GoesUpAt, Each, all_moves_up}
 use Rattle.tm_trustee.specs.Awaiting.{IsWaiting, AreCaughtUp}
 use Rattle.tm_trustee.specs.NestedAsks.{works_at}
 use Rattle.tm_trustee.specs.AboveAt.{EachAt}

@@ -1,5 +1,5 @@
 -- A trustee is ready still after each part of a turn.
-use Rattle.std.proofs.Common.{◌≡◌, ◌≢◌, ℕ, ◌+◌, ◌<◌, ◌≤◌, true, List, ◌++◌, length, sym, ◌∙◌, subst, arith}
+use Rattle.std.proofs.Common.{◌≡◌, ℕ, ◌+◌, ◌<◌, ◌≤◌, true, List, ◌++◌, length, sym, ◌∙◌, subst, arith}
 use Rattle.std.specs.Prelude.{slice_get, IsSomeAnd}
 use Rattle.std.specs.declared.option.Option.{Option}
 use Rattle.std.specs.declared.option.Option.TheVariants.{None, Some}
@@ -15,12 +15,11 @@ use Rattle.tm_core.proofs.Marks.{ran-append}
 use Rattle.tm_core.proofs.Tallies.{bye_more}
 use Rattle.tm_pair.specs.Views.{hand_of}
 use Rattle.tm_pair.specs.Theory.{Theory}
-use Rattle.tm_trustee.specs.AboveAt.{IsAbove, EachLane, NeedAll}
+use Rattle.tm_trustee.specs.AboveAt.{IsAbove}
 use Rattle.tm_trustee.specs.Awaiting.{AreAwaited, AreIdle}
 use Rattle.tm_trustee.specs.Lanes.{IsLane}
 use Rattle.tm_trustee.specs.Serving.{IsCurrent, IsServing, IsGoing, AreLanes, AreTold, AreSaid, GoesOn, done_by, ups_of}
 use Rattle.tm_trustee.specs.Tables.{Pairwise, AreOfOne, AreAmong, KeepsAbove, KeepsOwn, IsReady, IsMidway}
-use Rattle.tm_trustee.specs.declared.lane.Lane.{Lane}
 use Rattle.tm_trustee.specs.declared.trustee.Trustee.{Trustee}
 use Rattle.tm_trustee.proofs.Awaited.{quiet_awaited}
 use Rattle.tm_trustee.proofs.Elements.{there_too, there}

@@ -1,27 +1,22 @@
 -- A trustee in the midst of a turn is ready again after it went on with launched work.
-use Rattle.std.proofs.Common.{◌≡◌, ℕ, ◌+◌, ◌-◌, ◌^◌, ◌<◌, ◌≤◌, ◌⊎◌, min, List, [], ◌∷◌, ◌++◌, length, map, inl, inr, refl, sym, ◌∙◌, ap, subst, arith}
+use Rattle.std.proofs.Common.{◌≡◌, ℕ, ◌⊎◌, List, [], ◌∷◌, ◌++◌, inl, inr, sym, ◌∙◌, ap, subst, arith}
 use Rattle.std.specs.Prelude.{slice_get, IsSomeAnd}
 use Rattle.std.specs.List.{AllByRecursion}
-use Rattle.std.specs.declared.option.Option.TheVariants.{Some}
 use Rattle.std.proofs.lemmas.List.{length-map}
 use Rattle.tm_seq.specs.Kind.{Kind}
-use Rattle.tm_model.specs.declared.entry.Entry.{Entry}
-use Rattle.tm_model.specs.Entries.{AreResumes}
 use Rattle.tm_model.specs.Legal.{HasFirst}
 use Rattle.tm_model.specs.Serve.{works_in, state_after}
-use Rattle.tm_model.specs.State.{Awaits, Start, AskOf, Work, Object, Setup, State, object_of}
+use Rattle.tm_model.specs.State.{Awaits, Start, Work, Object, Setup, State, object_of}
 use Rattle.tm_core.proofs.CallerLemmas.{option_cases}
 use Rattle.tm_core.proofs.Finding.{all_found}
 use Rattle.tm_pair.specs.Theory.{Theory}
 use Rattle.tm_state.specs.Launches.{AwaitsReply}
 use Rattle.tm_state.specs.Resuming.{AllAwait}
-use Rattle.tm_state.specs.StateView.{StateView}
 use Rattle.tm_trustee.specs.Awaiting.{IsWaiting}
 use Rattle.tm_trustee.specs.NestedAsks.{works_at}
-use Rattle.tm_trustee.specs.Serving.{AreTold, done_by, ups_of, IsServing, IsGoing}
+use Rattle.tm_trustee.specs.Serving.{AreTold, ups_of, IsServing, IsGoing}
 use Rattle.tm_trustee.specs.Tables.{IsReady, IsMidway}
-use Rattle.tm_trustee.specs.Tasks.{AreGoing, GoesOnWith, IsGoingOn, ResumesMade}
-use Rattle.tm_trustee.specs.declared.lane.Lane.{Lane}
+use Rattle.tm_trustee.specs.Tasks.{AreGoing, GoesOnWith, IsGoingOn}
 use Rattle.tm_trustee.specs.declared.trustee.Trustee.{Trustee}
 use Rattle.tm_trustee.proofs.Elements.{there}
 

@@ -1,8 +1,5 @@
 -- A trustee that is ready is tied to its sides above, and its launched work is latched.
-use Rattle.std.proofs.Common.{◌≡◌, ℕ, ◌⊎◌, ◌+◌, true, false, List, [], ◌∷◌, ◌++◌, map, inl, inr, refl, sym, ◌∙◌, ap, subst, append_assoc, append-nil, arith}
-use Rattle.std.specs.Prelude.{slice_get}
-use Rattle.std.specs.declared.option.Option.{Option}
-use Rattle.std.specs.declared.option.Option.TheVariants.{None, Some}
+use Rattle.std.proofs.Common.{◌≡◌, ℕ, ◌⊎◌, ◌+◌, false, List, [], ◌∷◌, ◌++◌, map, inl, inr, refl, sym, ◌∙◌, ap, subst, append_assoc, append-nil, arith}
 use Rattle.std.proofs.lemmas.List.{map-append}
 use Rattle.std.proofs.lemmas.Option.{slice_get_within}
 use Rattle.tm_seq.specs.Kind.{Kind}
@@ -19,10 +16,10 @@ use Rattle.tm_model.specs.State.{State}
 use Rattle.std.specs.List.{AllByRecursion}
 use Rattle.tm_core.proofs.Joins.{legal_logs_join}
 use Rattle.tm_core.proofs.Latching.{launches_are_latched}
-use Rattle.tm_pair.specs.Views.{BatchView, ClientView}
-use Rattle.tm_pair.specs.Sides.{HasRun, IsGoodClient}
+use Rattle.tm_pair.specs.Views.{ClientView}
+use Rattle.tm_pair.specs.Sides.{IsGoodClient}
 use Rattle.tm_pair.specs.Theory.{Theory, TheoryLaws}
-use Rattle.tm_trustee.specs.NestedAsks.{ToldReply, target, asks_of, replies_of, asked_by, replied_in, EndsInBye, HasSent, IsTied}
+use Rattle.tm_trustee.specs.NestedAsks.{ToldReply, target, asks_of, replies_of, asked_by, EndsInBye, HasSent, IsTied}
 use Rattle.tm_trustee.specs.Lanes.{IsLane}
 use Rattle.tm_trustee.specs.Laws.{AreTied, AreLatched}
 use Rattle.tm_trustee.specs.declared.lane.Lane.{Lane}
@@ -33,6 +30,9 @@ use Rattle.tm_trustee.proofs.TurningReady.{at_home, own_table}
 
 module _ {V O R T : Type 0} (kind : Kind V O R T) (opening home : State V O R T) (done : List (Entry V O R T)) (u : ℕ) (up : ClientView V O R T) (lane : Lane V O R T)
     (is : IsLane kind opening done u up lane) (good : IsGoodClient kind home up) (asked : AllByRecursion IsOfTrustee up.sent) where
+  abbrev reply_of : R → Answer V O R T
+  reply_of r = Replied r
+
   has_sent : HasSent (map target (asks_of opening.setup u done)) up.sent
   has_sent =
       elim is.last [
@@ -54,16 +54,16 @@ module _ {V O R T : Type 0} (kind : Kind V O R T) (opening home : State V O R T)
       let (rest, e) = replied_all (ran up.place up.seen) (answered up.place up.seen) (front_only (ran up.place up.seen) up.sent (ran_front up.out up.sent (ran up.place up.seen) good.runs) asked)
       (behind_front (ran up.place up.seen) up.sent (ran_front up.out up.sent (ran up.place up.seen) good.runs) (last_of is.last)) (seen_fits kind opening done u up lane is home good) in
       let seen = seen_replies kind opening done u up lane is home good in (
-        map (λ r. Replied r) lane.came.items ++ rest,
-        e ∙ ap (λ l. map (λ r. Replied r) l ++ rest) (sym seen)
-            ∙ ap (λ l. l ++ rest) (map-append (λ (r : R). Replied {V = V} {O = O} {R = R} {T = T} r) (map (λ t. t.reply) replies) lane.came.items)
-            ∙ append_assoc (map (λ r. Replied r) (map (λ t. t.reply) replies)) (map (λ r. Replied r) lane.came.items) rest
-            ∙ ap (λ l. l ++ (map (λ r. Replied r) lane.came.items ++ rest)) (twice replies),
+        map reply_of lane.came.items ++ rest,
+        e ∙ ap (λ l. map reply_of l ++ rest) (sym seen)
+            ∙ ap (λ l. l ++ rest) (map-append reply_of (map (λ t. t.reply) replies) lane.came.items)
+            ∙ append_assoc (map reply_of (map (λ t. t.reply) replies)) (map reply_of lane.came.items) rest
+            ∙ ap (λ l. l ++ (map reply_of lane.came.items ++ rest)) (twice replies),
       )
     where
-      twice : (xs : List (ToldReply R)) → map (λ r. Replied {V = V} {O = O} {R = R} {T = T} r) (map (λ t. t.reply) xs) ≡ map (λ t. Replied t.reply) xs
+      twice : (xs : List (ToldReply R)) → map reply_of (map (λ t. t.reply) xs) ≡ map (λ t. Replied t.reply) xs
       twice [] = refl
-      twice (x ∷ xs) = ap (λ l. Replied x.reply ∷ l) (twice xs)
+      twice (x ∷ xs) = ap (λ l. reply_of x.reply ∷ l) (twice xs)
 
       front_only : (xs ys : List (Request V O R T)) → IsPrefix xs ys → AllByRecursion IsOfTrustee ys → AllByRecursion IsOfTrustee xs
       front_only [] ys front all = tt

@@ -1,13 +1,12 @@
 -- The launches of an id that have not ended, after an entry, and after entries none of which is a resume.
-use Rattle.std.proofs.Common.{◌≡◌, ◌≢◌, ℕ, ◌+◌, ◌<◌, ◌≤◌, ◌⊎◌, true, false, cond, List, [], ◌∷◌, ◌++◌, length, inl, inr, refl, sym, ◌∙◌, ap, subst, arith, eq-eqb, ne_eqb, append_assoc, append-nil}
+use Rattle.std.proofs.Common.{◌≡◌, ℕ, ◌≤◌, ◌⊎◌, true, false, cond, List, [], ◌∷◌, ◌++◌, inl, inr, refl, sym, ◌∙◌, ap, subst, arith, ne_eqb, append_assoc, append-nil}
 use Rattle.std.specs.Prelude.{◌==◌}
 use Rattle.std.specs.declared.option.Option.{Option}
-use Rattle.std.specs.declared.option.Option.TheVariants.{None, Some}
+use Rattle.std.specs.declared.option.Option.TheVariants.{None}
 use Rattle.std.proofs.lemmas.Bool.{cases_eq}
 use Rattle.tm_seq.specs.Kind.{Kind}
-use Rattle.tm_seq.specs.declared.kind.Event.{Event}
 use Rattle.tm_seq.specs.declared.kind.Next.{Next}
-use Rattle.tm_seq.specs.declared.kind.Next.TheVariants.{Ask, Done}
+use Rattle.tm_seq.specs.declared.kind.Next.TheVariants.{Done}
 use Rattle.tm_batch.specs.declared.message.Request.{Request}
 use Rattle.tm_batch.specs.declared.message.Request.TheVariants.{Entrust, Apply, Launch, Grant, Release, Reclaim, Bye}
 use Rattle.tm_batch.specs.declared.message.Answer.{Answer}
@@ -16,7 +15,7 @@ use Rattle.tm_model.specs.declared.entry.Entry.{Entry}
 use Rattle.tm_model.specs.declared.entry.Entry.TheVariants.{By, Resume, Sent}
 use Rattle.tm_model.specs.State.{Start, Work, Object, State, object_of}
 use Rattle.tm_model.specs.Serve.{value_run, value_advanced, works_resumed, works_in, completed, served, after, state_after}
-use Rattle.tm_model.specs.Legal.{HasFirst, Serves, MayCome, IsLegal}
+use Rattle.tm_model.specs.Legal.{HasFirst, MayCome, IsLegal}
 use Rattle.std.specs.List.{AllByRecursion}
 use Rattle.tm_core.proofs.CallerLemmas.{option_cases, all_weaker, all-append}
 use Rattle.tm_core.proofs.Living.{GoesOn, lives, after_goes}

@@ -11,7 +11,7 @@ use Rattle.tm_model.specs.declared.entry.Entry.{Entry}
 use Rattle.tm_model.specs.State.{Setup}
 use Rattle.tm_model.specs.Holds.{has_bye}
 use Rattle.tm_pair.specs.Views.{ClientView}
-use Rattle.tm_pair.specs.Calls.{Publishes, Collects, OnLook}
+use Rattle.tm_pair.specs.Calls.{Publishes, Collects}
 use Rattle.tm_pair.specs.Theory.{Theory, KeepsSides}
 use Rattle.tm_pair.specs.Moves.{answers_found}
 use Rattle.tm_pair.specs.declared.moves.Move.TheVariants.{Publish, Collect}

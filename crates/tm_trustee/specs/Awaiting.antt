@@ -1,5 +1,5 @@
 -- What the launched work of a trustee awaits, after all that it has done.
-use Rattle.std.specs.Prelude.{◌≡◌, ℕ, nat_eq, ◌+◌, ◌<◌, ◌≤◌, ◌⊎◌, true, List, [], ◌∷◌, length, map}
+use Rattle.std.specs.Prelude.{◌≡◌, ℕ, nat_eq, ◌+◌, ◌<◌, ◌≤◌, ◌⊎◌, true, List, ◌∷◌, length, map}
 use Rattle.std.specs.List.{AllByRecursion, IsDistinct}
 use Rattle.tm_seq.specs.Kind.{Kind}
 use Rattle.tm_model.specs.declared.entry.Entry.{Entry}

@@ -1,4 +1,4 @@
-use Rattle.std.proofs.Common.{◌≡◌, ◌+◌, ◌++◌, [], ◌∷◌, length, ap, subst, sym, ◌∙◌, arith}
+use Rattle.std.proofs.Common.{arith}
 use Rattle.tm_trustee.proofs.LaneNews as news
 use Rattle.tm_trustee.proofs.lane.new_lanes.Goals as goal
 

@@ -1,4 +1,4 @@
-use Rattle.std.proofs.Common.{◌≤◌, vec_len}
+use Rattle.std.proofs.Common.{◌≤◌}
 use Rattle.std.specs.Prelude.{vec_capacity}
 use Rattle.tm_trustee.specs.Lanes.{AreNewLanes}
 use Rattle.tm_trustee.proofs.lane.new_lanes.Given as goal

@@ -1,4 +1,4 @@
-use Rattle.std.proofs.Common.{◌+◌, ◌<◌, refl, subst, sym, arith}
+use Rattle.std.proofs.Common.{refl, subst, sym, arith}
 use Rattle.tm_state.specs.Resuming.{AllAwait}
 use Rattle.tm_trustee.proofs.GoingLoops.{resumable, noted_told}
 use Rattle.tm_trustee.proofs.Telling as telling

@@ -1,4 +1,4 @@
-use Rattle.std.proofs.Common.{rules, ◌≡◌, ◌+◌, ◌<◌, ◌≤◌, length, ◌∙◌, sym, subst, arith}
+use Rattle.std.proofs.Common.{rules, arith}
 use Rattle.tm_trustee.proofs.Telling as telling
 use Rattle.tm_trustee.proofs.tasks.tell_all.Goals as goal
 

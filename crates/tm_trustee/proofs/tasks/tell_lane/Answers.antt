@@ -1,4 +1,4 @@
-use Rattle.std.proofs.Common.{◌<◌, length, refl, sym, subst}
+use Rattle.std.proofs.Common.{◌<◌, refl, sym, subst}
 use Rattle.tm_trustee.specs.Tasks.{IsToldAt, SameCame}
 use Rattle.tm_trustee.proofs.GoingLoops.{resumable}
 use Rattle.tm_trustee.proofs.Telling as telling

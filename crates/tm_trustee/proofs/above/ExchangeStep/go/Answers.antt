@@ -1,8 +1,6 @@
-use Rattle.std.proofs.Common.{◌≡◌, ◌≤◌, length, refl, sym, ◌∙◌, ap, subst, inl, inr, arith}
+use Rattle.std.proofs.Common.{refl, sym, ◌∙◌, ap, subst}
 use Rattle.std.specs.List.{AllByRecursion}
 use Rattle.tm_model.specs.Orderly.{IsOfTrustee}
-use Rattle.tm_pair.specs.Theory.{KeepsSides}
-use Rattle.tm_trustee.specs.Steps.{MaySendAsks}
 use Rattle.tm_trustee.proofs.Exchanging as exchanging
 use Rattle.tm_trustee.proofs.above.ExchangeStep.go.Goals as goal
 

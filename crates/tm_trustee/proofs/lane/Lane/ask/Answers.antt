@@ -1,4 +1,4 @@
-use Rattle.std.proofs.Common.{◌≡◌, ◌<◌, length, refl, ap}
+use Rattle.std.proofs.Common.{length, refl, ap}
 use Rattle.std.proofs.lemmas.Option.{slice_get_read}
 use Rattle.tm_trustee.proofs.AboveBye.{on_ok}
 use Rattle.tm_trustee.proofs.lane.Lane.ask.Goals as goal

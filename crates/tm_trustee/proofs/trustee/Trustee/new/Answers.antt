@@ -14,8 +14,8 @@ held_by-requires-clause-few g c =
     let made = subst (λ ns. AreNewLanes (c.args.number + 1) c.args.config.objects ns c.len.result lanes) c.deref.ensures.value c.in-Ok.ensures in
     let new = subst (λ n. AreNewLanes (c.args.number + 1) c.args.config.objects c.args.nested.items n lanes) many made in
     λ i lane at.
-        few_names opening c.args.number c.args.config whole c.args.first.items c.args.nested.items (length c.args.above.items) may c.args.config.objects lanes new
-        i lane (subst (λ l. slice_get l i ≡ Some lane) c.deref-2.ensures.value at)
+    few_names opening c.args.number c.args.config whole c.args.first.items c.args.nested.items (length c.args.above.items) may c.args.config.objects lanes new
+    i lane (subst (λ l. slice_get l i ≡ Some lane) c.deref-2.ensures.value at)
 
 pub returns-in-Ok-new-clause-begun : goal.returns-in-Ok-new-clause-begun
 returns-in-Ok-new-clause-begun g c =
@@ -25,5 +25,5 @@ returns-in-Ok-new-clause-begun g c =
     let counted =
     subst (λ l. AreCounted c.args.number l (c.args.number + 1 + length l) c.in-Ok-held_by.held.items) c.deref-2.ensures.value c.in-Ok-held_by.ensures in
     λ opening whole may.
-        begun.begins_serving g.P.PairTable.theory g.S.Entrusted.kind opening c.args.config whole c.args.first.items _ refl
-        c.new-in-Ok-new.ensures may c.in-Ok-new.ensures.opened c.requires.home c.requires.seats c.len.result many made counted
+    begun.begins_serving g.P.PairTable.theory g.S.Entrusted.kind opening c.args.config whole c.args.first.items _ refl
+    c.new-in-Ok-new.ensures may c.in-Ok-new.ensures.opened c.requires.home c.requires.seats c.len.result many made counted

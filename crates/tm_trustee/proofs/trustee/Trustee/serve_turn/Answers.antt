@@ -1,4 +1,4 @@
-use Rattle.std.proofs.Common.{◌≡◌, ◌+◌, ◌-◌, ◌^◌, ◌<◌, ◌↔◌, min, IsTrue, refl, subst, arith, ap, ◌∙◌}
+use Rattle.std.proofs.Common.{◌≡◌, ◌↔◌, IsTrue, subst, arith}
 use Rattle.std.specs.Prelude.{All}
 use Rattle.tm_trustee.specs.declared.stage.Stage.TheVariants.{Over}
 use Rattle.tm_trustee.proofs.TurningReady as turning
