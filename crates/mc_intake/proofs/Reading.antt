@@ -188,5 +188,13 @@ too_much limit text into messages i came fed is fed_is lt most =
     let left = is.left in
     omega (arith, many, joined, front, left, fed_is, lt)
 
-pub some_came : (into : List ℕ) (came : ℕ) → came ≢ 0 → came ≤ length into → length into ≡ BUFFER → (1 ≤ length (take came into)) × (length (take came into) ≤ BUFFER)
-some_came into came some most room = let many = length-take-le came into most in (omega (arith, many, some), omega (arith, many, most, room))
+-- all that came is
+pub some_came : (limit : ℕ) (text into : List ℕ) (messages : List Message) (i : Intake) (came fed : ℕ) → IsIntake limit text messages i → fed ≡ min came i.left → came ≤ fed
+    → came ≢ 0 → came ≤ length into → length into ≡ BUFFER
+    → (1 ≤ length (take came into)) × (length (take came into) ≤ BUFFER) × (length (text ++ take came into) ≤ limit)
+some_came limit text into messages i came fed is fed_is all some most room =
+    let many = length-take-le came into most in
+    let joined = length-append text (take came into) in
+    let front = length-take limit text in
+    let left = is.left in
+    (omega (arith, many, some), omega (arith, many, most, room), omega (arith, many, joined, front, left, fed_is, all, some))

@@ -38,7 +38,7 @@ pub record Takes (limit : ℕ) (text : List ℕ) (messages : List Message) (n : 
 abbrev pub Says : Came → ℕ → List ℕ → List ℕ → Option (List ℕ) → Type 0
 Says came.End limit text bytes left = (bytes ≡ []) × IsEmptyWhereTold left
 Says came.TooMuch limit text bytes left = limit < length (text ++ bytes)
-Says came.Some limit text bytes left = (1 ≤ length bytes) × (length bytes ≤ BUFFER)
+Says came.Some limit text bytes left = (1 ≤ length bytes) × (length bytes ≤ BUFFER) × (length (text ++ bytes) ≤ limit)
 
 -- a read brought bytes behind those of before
 pub record HasRead (limit : ℕ) (text : List ℕ) (messages : List Message) (said : Came) (left left_new : Option (List ℕ)) (i : Intake) : Type 0 where

@@ -21,4 +21,4 @@ returns-else-fed-came-clause-read g c = λ limit text messages is.
     let items = with_items_is i.buffer into (c.read.auto.into ∙ c.deref_mut.ensures.len) in
     let room = c.read.auto.into ∙ ap length c.deref_mut.ensures.value ∙ is.room in
     came_in limit text messages i _ into c.in_ok-came.came c.within-fed.result came.Some _ _ is c.requires.fed items room refl refl refl refl c.within-fed.ensures
-    c.in_ok-came.ensures.bound c.in_ok-came.ensures.bytes (some_came into c.in_ok-came.came c.if-came-eq0.false c.in_ok-came.ensures.bound room)
+    c.in_ok-came.ensures.bound c.in_ok-came.ensures.bytes (some_came limit text into messages i c.in_ok-came.came c.within-fed.result is c.within-fed.ensures c.if-fed-came.false c.if-came-eq0.false c.in_ok-came.ensures.bound room)
