@@ -8,7 +8,7 @@ use Rattle.tm_seq.specs.Kind.{Kind}
 use Rattle.tm_batch.specs.declared.config.Config.{Config}
 use Rattle.tm_batch.specs.declared.config.First.{First}
 use Rattle.tm_model.specs.State.{place_count}
-use Rattle.tm_pair.specs.Plain.{opening_at, core_at, trustee_at, plain_theory}
+use Rattle.tm_pair.specs.Plain.{opening_at, core_at, client_at, trustee_at, plain_theory}
 use Rattle.tm_pair.specs.declared.plain.PlainTable.{PlainTable}
 use Rattle.tm_state.specs.Asking.{HaveAllEnded}
 use Rattle.tm_trustee.specs.Places.{found_below}
@@ -26,6 +26,7 @@ use Rattle.tm_turns.proofs.Asked.{asked}
 use Rattle.tm_turns.proofs.Seated.{resumed_none}
 use Rattle.tm_turns.proofs.AskedServed.{places_fall}
 use Rattle.tm_turns.proofs.Weights.{lane_weight, turn_falls}
+use Rattle.tm_turns.proofs.WentUp.{nothing_waits, went_up}
 use Rattle.tm_turns.proofs.WeightsUp.{tables_weight, sides_weight, moved_at, ups_fall}
 use Rattle.tm_turns.proofs.Ones.{one_of, counted_most, counted_moved}
 
@@ -68,6 +69,7 @@ module _ {V C O R T : Type 0} (kind : Kind V O R T) where
       subst (λ xs. slice_get xs t ≡ Some is.becomes) (sym is.trustees)
       (set_here old.trustees.items t is.becomes (slice_get_within old.trustees.items t is.trustee is.of_trustee)) in
       let none = resumed_none kind config first new are_now t is.becomes of_now in
+      let none_was = resumed_none kind config first old are t is.trustee is.of_trustee in
       let (number_now, ready_now) = are_now.trustees t is.becomes of_now in
       let (number, ready) = are.trustees t is.trustee is.of_trustee in
       let n = is.trustee.number in
@@ -95,9 +97,13 @@ module _ {V C O R T : Type 0} (kind : Kind V O R T) where
         | inr ne ↦ is.tables.lower v (omega (arith, lt, ne)) ∙ sym (set_other old.tables.items n v now ne)
       ])
       (λ i j x y before after at ex ey es er.
+      went_up kind _ _ x y before after
+      (nothing_waits (opening_at was).setup (n + 1 + i) (done_by (plain_theory kind) is.trustee) (client_at before) none_was)
+      (
       is.above was at_was i x y before after
       (subst (λ k. slice_get old.tables.items k ≡ Some x) at (sym (set_other old.tables.items n j now (λ e. absurd (omega (arith, at, e)))) ∙ ex))
-      (subst (λ k. slice_get new.tables.items k ≡ Some y) at ey) es er) in
+      (subst (λ k. slice_get new.tables.items k ≡ Some y) at ey) es er
+      )) in
       let trustees = total_set (trustee_weight kind) old.trustees.items t is.trustee is.becomes is.of_trustee in
       let of_trustees : total (trustee_weight kind) new.trustees.items ≡ total (trustee_weight kind) (slice_set old.trustees.items t is.becomes) =
       ap (λ xs. total (trustee_weight kind) xs) is.trustees in

@@ -5,6 +5,7 @@ pub mod ServeKeeps
 pub mod Asked
 pub mod AskedServed
 pub mod Weights
+pub mod WentUp
 pub mod WeightsUp
 pub mod Unlaunched
 pub mod Seated

@@ -19,9 +19,10 @@ use Rattle.tm_pair.specs.declared.table.Collected.TheVariants.{Answers, Pending 
 use Rattle.tm_pair.specs.declared.moves.Move.TheVariants.{Collect}
 use Rattle.tm_pair.specs.declared.plain.PlainTable.{PlainTable}
 use Rattle.tm_pair.specs.declared.plain.PlainClient.{PlainClient}
-use Rattle.tm_trustee.specs.Above.{one_if, moves_up, all_moves_up, SaysByeAt, GoesUpAt}
+use Rattle.tm_trustee.specs.Above.{one_if, moves_up, all_moves_up, SaysByeAt}
 use Rattle.tm_client.specs.declared.answers.Turn.{Turn}
 use Rattle.tm_client.specs.declared.answers.Turn.TheVariants.{Sent, Pending, Got, Idle}
+use Rattle.tm_turns.proofs.WentUp.{WentUp}
 use Rattle.tm_turns.specs.Whole.{OneClient, OneLane, OneTrustee}
 use Rattle.tm_turns.specs.Going.{has_moved, TurnsAt}
 use Rattle.tm_turns.specs.declared.turns.Turns.{Turns}
@@ -252,11 +253,11 @@ module _ {V O R T : Type 0} where
     -- where nothing was moved at a side above
     pub up_stays :
         (all : Type 0) (was now : PlainTable V O R T) (before after : PlainClient V O R T) → IsClientOf kind was before
-        → GoesUpAt (plain_theory kind) all was now before after → moves_up (client_at before) (client_at after) ≡ 0
+        → WentUp kind all was now before after → moves_up (client_at before) (client_at after) ≡ 0
         → UpStays all was now before after
     up_stays all was now before after mine goes none =
         let (between, mid, looks, its, says) = goes in
-        let (found, collects, on, keeps) = looks in
+        let (found, collects, on) = looks in
         let got_says = says_got all between now mid after says in
         let look = look_stays found was between before mid mine collects on (omega (arith, none, got_says)) in
         let out = look.out in

@@ -16,11 +16,12 @@ use Rattle.tm_pair.specs.declared.table.Collected.TheVariants.{Answers, Pending,
 use Rattle.tm_pair.specs.declared.moves.Move.TheVariants.{Collect}
 use Rattle.tm_pair.specs.declared.plain.PlainTable.{PlainTable}
 use Rattle.tm_pair.specs.declared.plain.PlainClient.{PlainClient}
-use Rattle.tm_trustee.specs.Above.{one_if, moves_up, all_moves_up, SaysByeAt, GoesUpAt}
+use Rattle.tm_trustee.specs.Above.{one_if, moves_up, all_moves_up, SaysByeAt}
 use Rattle.tm_client.specs.Clients.{total}
 use Rattle.tm_turns.proofs.Asked.{asked, publish_asks, collect_asks}
 use Rattle.tm_turns.proofs.Ones.{length_more}
 use Rattle.tm_turns.proofs.Weights.{unsaid, up_weight}
+use Rattle.tm_turns.proofs.WentUp.{WentUp}
 
 one_most : {X : Type 0} (o : Option X) → one_if o ≤ 1
 one_most None = omega arith
@@ -136,12 +137,12 @@ module _ {V O R T : Type 0} where
 
     -- what a side above and its table have to do, and what was moved there, are no more than what they had to do
     pub up_falls :
-        (all : Type 0) (was now : PlainTable V O R T) (before after : PlainClient V O R T) → GoesUpAt (plain_theory kind) all was now before after
+        (all : Type 0) (was now : PlainTable V O R T) (before after : PlainClient V O R T) → WentUp kind all was now before after
         → up_weight (client_at after) + asked (core_at now) + moves_up (client_at before) (client_at after)
         ≤ up_weight (client_at before) + asked (core_at was)
     up_falls all was now before after goes =
         let (between, mid, looks, mine, says) = goes in
-        let (found, collects, on, keeps) = looks in
+        let (found, collects, on) = looks in
         up_less (client_at before) (client_at mid) (client_at after) (asked (core_at was)) (asked (core_at between)) (asked (core_at now))
         (looks_by found was between before mid collects on) (says_by all between now mid after says)
 
@@ -158,7 +159,7 @@ module _ {V O R T : Type 0} where
     abbrev EachGoes : Type 0 → ℕ → List (PlainTable V O R T) → List (PlainTable V O R T) → List (PlainClient V O R T) → List (PlainClient V O R T) → Type 0
     EachGoes all from old new above above_new =
         (i j : ℕ) (was now : PlainTable V O R T) (before after : PlainClient V O R T) → j ≡ from + i → slice_get old j ≡ Some was → slice_get new j ≡ Some now
-        → slice_get above i ≡ Some before → slice_get above_new i ≡ Some after → GoesUpAt (plain_theory kind) all was now before after
+        → slice_get above i ≡ Some before → slice_get above_new i ≡ Some after → WentUp kind all was now before after
 
     heads_fall :
         (all : Type 0) (old new : List (PlainTable V O R T)) (above above_new : List (PlainClient V O R T)) → length new ≡ length old
