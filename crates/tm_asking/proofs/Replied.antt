@@ -24,7 +24,7 @@ use Rattle.tm_client.specs.Clients.{come_of, IsClient}
 use Rattle.tm_client.proofs.Accepting.{as_many_wait}
 use Rattle.tm_client.proofs.Receiving.{none_left}
 use Rattle.tm_asking.specs.Questions.{Question, requests_at, replies_at, IsReplyOf, HasAskedAll}
-use Rattle.tm_asking.specs.Asking.{numbers_at, IsApply, come_at, IsNoted, IsSettled, IsAskedAt, IsAsking, AreReplied, NoneCounts, side_in, sides_of}
+use Rattle.tm_asking.specs.Asking.{numbers_at, IsApply, come_at, IsNoted, IsSettled, IsAskedAt, IsAsking, AreReplied, AreBegun, NoneCounts, side_in, sides_of}
 
 module _ {X : Type 0} where
   at_front : (front : List X) (x : X) (xs : List X) (n : ℕ) → n ≡ length front → slice_get (front ++ x ∷ xs) n ≡ Some x
@@ -234,3 +234,32 @@ module _ {V O R T D : Type 0} (view : D → ClientView V O R T) where
           (begins_again t (was t) asked replies books.arrived.items lane (is.lanes t lane there)
           (lane_at_rest (openings t) books.number t books.arrived.items lane (client.lanes t lane there) (none t lane there)) more);
     }
+
+  -- before all replies are there, the first of the questions were sent, and what was run of them is behind what was seen
+  pub begun_so_far :
+      (was : ℕ → ClientView V O R T) (asked : List (Question V O R T)) (replies : List R) (books : Books V ℕ D O R T) → IsAsking view was asked replies books
+      → AreBegun view was asked books
+  begun_so_far was asked replies books is = λ t lane missing there.
+      let a = is.lanes t lane there in
+      let (grown, seen) = a.side.seen in
+      let side = view lane.side in
+      let ran_all : ran side.place side.seen ≡ (was t).sent ++ ran side.place grown =
+      ap (λ log. ran side.place log) seen ∙ ran-append mark_of side.place (was t).seen grown
+      ∙ ap (λ l. l ++ ran side.place grown) (ap (λ c. ran c (was t).seen) a.side.place ∙ sym a.side.settled.runs) in
+      let sent : side.sent ≡ (was t).sent ++ (ran side.place grown ++ out_requests side.out) =
+      a.side.runs ∙ ap (λ l. l ++ out_requests side.out) ran_all ∙ append_assoc (was t).sent (ran side.place grown) (out_requests side.out) in
+      let parts : (was t).sent ++ ((ran side.place grown ++ out_requests side.out) ++ lane.waits.items) ≡ (was t).sent ++ requests_at t asked =
+      sym (append_assoc (was t).sent (ran side.place grown ++ out_requests side.out) lane.waits.items) ∙ ap (λ l. l ++ lane.waits.items) (sym sent) ∙ a.sent in
+      let all : (ran side.place grown ++ out_requests side.out) ++ lane.waits.items ≡ requests_at t asked =
+      append_cancel_left (was t).sent ((ran side.place grown ++ out_requests side.out) ++ lane.waits.items) (requests_at t asked) parts in record {
+        place = a.side.place;
+        asked = ran side.place grown ++ out_requests side.out;
+        first = (lane.waits.items, sym all);
+        sent = sent;
+        grown = grown;
+        seen = seen;
+        runs = (out_requests side.out, refl);
+        answers = [];
+        answered_first = (answered side.place grown, refl);
+        replied = tt;
+      }

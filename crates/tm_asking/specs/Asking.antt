@@ -17,7 +17,7 @@ use Rattle.tm_client.specs.declared.answers.Arrival.{Arrival}
 use Rattle.tm_client.specs.declared.books.Books.{Books}
 use Rattle.tm_client.specs.Lanes.{out_requests}
 use Rattle.tm_client.specs.Asking.{IsOpen, IsHeldBy}
-use Rattle.tm_asking.specs.Questions.{Question, requests_at, replies_at, HasAskedAll}
+use Rattle.tm_asking.specs.Questions.{Question, requests_at, replies_at, HasAskedAll, HasAskedSome}
 
 module _ {V O R T : Type 0} where
   -- an operation on the object of a trust
@@ -114,3 +114,8 @@ module _ {V O R T D : Type 0} (view : D → ClientView V O R T) where
     pub each : length replies ≡ length asked
     pub at : (t : ℕ) (lane : Lane V ℕ D O R T) (missing : R) → slice_get books.lanes.items t ≡ Some lane
         → HasAskedAll missing (requests_at t asked) (replies_at t asked replies) (was t) (view lane.side)
+
+  -- so far they asked the first of these questions
+  abbrev pub AreBegun : (ℕ → ClientView V O R T) → List (Question V O R T) → Books V ℕ D O R T → Type 0
+  AreBegun was asked books =
+      (t : ℕ) (lane : Lane V ℕ D O R T) (missing : R) → slice_get books.lanes.items t ≡ Some lane → HasAskedSome missing (requests_at t asked) [] (was t) (view lane.side)

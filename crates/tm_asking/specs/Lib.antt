@@ -1,3 +1,4 @@
 pub mod Questions
 pub mod Asking
 pub mod Turning
+pub mod Laws

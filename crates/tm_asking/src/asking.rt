@@ -7,7 +7,7 @@ ghost use Rattle.tm_client.specs.Asking.{HasAsked, HasRoom, IsFull};
 ghost use Rattle.tm_client.specs.Clients.{IsClient};
 ghost use Rattle.tm_asking.specs.Questions.{Question};
 ghost use Rattle.tm_asking.specs.Turning.{IsAtTables};
-ghost use Rattle.tm_asking.specs.Asking.{operation, sides_of, IsAsking, AreReplied, AllOpen, NoneCounts, MayAskBy};
+ghost use Rattle.tm_asking.specs.Asking.{operation, sides_of, IsAsking, AreReplied, AreBegun, AllOpen, NoneCounts, MayAskBy};
 
 use std::alloc::{AllocError, Global};
 use tm_client::{Client, Got, Trust};
@@ -94,6 +94,17 @@ impl<S: FitsBatches> Asking<S> {
             }
             _ => unreachable!(),
         }
+    }
+
+    /// What the client's sides tell before all replies are there: at each trustee the first of the questions were sent.
+    ///
+    /// Nothing here runs: it says what holds of a message that is given up.
+    pub fn so_far<P: PairTable<S>>(&self, client: &Client<S, u64, P>)
+        ensures { (was : ℕ → ClientView S S.Op S.Reply S.Task) (asked : List (Question S S.Op S.Reply S.Task))
+            → IsAsking P.theory.client_view was asked self.now.replies.items client.now.books
+            → AreBegun P.theory.client_view was asked client.now.books }
+    {
+        let _ = client;
     }
 
     /// The replies, in the order of the questions, where all were asked and none counts any more.

@@ -9,7 +9,9 @@
 #![tactic(auto)]
 
 mod asking;
+mod laws;
 mod turning;
 
 pub use asking::{Asking, may_begin};
+pub use laws::{all_are_some, all_join, questions_join, some_are_all, some_join};
 pub use turning::{Turned, turn_where_counting};
