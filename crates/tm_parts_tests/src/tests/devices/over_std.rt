@@ -2,11 +2,11 @@
 ghost use Rattle.std.specs.Prelude.{◌≤◌, IfOk};
 
 use super::{is_answer, read_clock, read_some};
-use crate::{Clock, Failed, Sink, Source, StdSink, StdSource, SystemClock, write_all};
 use std::cell::Cell;
 use std::test::Fail;
 use std::time::{Duration, SystemTime, UNIX_EPOCH};
 use std::{io, rt};
+use tm_base::{Failed, Sink, Source, StdSink, StdSource, SystemClock, write_all};
 
 // The whole seconds since 1970 that std tells.
 fn seconds_now<C: rt::Clock>(clock: &C) -> Result<u64, Fail> {

@@ -1,9 +1,9 @@
 //! What a row does, and what comes of it.
 
-use crate::{NotResumed, NotSent, NotServed, ReferenceTrustee, Resumed};
 use std::alloc::{AllocError, Global};
 use std::process::Abort;
 use tm_batch::{Answer, Config, First, Holders, Name, Refusal, Request};
+use tm_reference::{NotResumed, NotSent, NotServed, ReferenceTrustee, Resumed};
 use tm_seq::{Counter, CounterOp, CounterReply, CounterTask, Event};
 
 // What is done: a request of the row's place, an event for an object's first launch, or a batch of

@@ -2,9 +2,12 @@
 
 mod over_std;
 
-use super::*;
 use std::alloc::{AllocError, Global};
 use std::test::Fail;
+use tm_base::{
+    Clock, CountingGate, Failed, FreeGate, Gate, MemClock, MemSink, MemSource, Sink, Source,
+    write_all,
+};
 
 // What a call answers: the bytes that it moved, or a failure.
 type Answer = Result<&'static str, Failed>;

@@ -2,11 +2,10 @@
 ghost use Rattle.std.specs.Prelude.{◌≡◌, length, IsSome};
 ghost use Rattle.tm_objects.specs.Live.{object_of};
 
-use crate::left::Left;
-use crate::objects::Objects;
 use std::alloc::{AllocError, Global};
 use std::test::Fail;
 use tm_batch::{Name, Refusal};
+use tm_objects::{Left, Objects};
 use tm_seq::{Counter, CounterOp, CounterReply, Entrusted};
 
 /// The counters of a trustee with few places. A call that may not be made answers `None`.

@@ -1,10 +1,9 @@
 //! The calls on latches, whose tasks are numbers.
 ghost use Rattle.std.specs.Prelude.{◌≡◌};
 
-use crate::entered::Entered;
-use crate::latches::Latches;
 use std::alloc::{AllocError, Global};
 use std::test::Fail;
+use tm_latch::{Entered, Latches};
 
 /// Latches and their room. A call that may not be made answers `None`.
 #[derive(Drop)]

@@ -1,7 +1,7 @@
 //! The machine, step by step.
-use crate::{Core, Step, StepRefused};
 use std::alloc::{AllocError, Global};
 use std::test::Fail;
+use tm_core::{Core, Step, StepRefused};
 
 /// What became of a step.
 #[derive(Debug, Clone, Copy, PartialEq, Eq)]

@@ -1,8 +1,6 @@
 //! A counter and a sum of two, reached through their bound and by themselves.
 
-use crate::counter::{Counter, CounterOp, CounterReply, CounterTask};
-use crate::kind::{Entrusted, Event, Next};
-use crate::sum::Sum;
+use tm_seq::{Counter, CounterOp, CounterReply, CounterTask, Entrusted, Event, Next, Sum};
 
 /// Runs two operations on a value of any kind, and begins a task on it.
 fn in_turn<S: Entrusted>(

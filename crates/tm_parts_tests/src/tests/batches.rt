@@ -1,11 +1,10 @@
 //! Batches of a counter.
 ghost use Rattle.std.specs.Prelude.{◌≡◌, []};
 
-use crate::batch::Batch;
-use crate::config::{First, Holders};
-use crate::fits::FitsAnswers;
-use crate::message::{Answer, AnswerBatch, Completion, Name, Request};
 use std::test::Fail;
+use tm_batch::{
+    Answer, AnswerBatch, Batch, Completion, First, FitsAnswers, Holders, Name, Request,
+};
 use tm_seq::{Counter, CounterOp, CounterReply, Sum};
 
 /// An answer batch of any kind whose answer batches fit.

@@ -3,7 +3,7 @@ use Rattle.std.specs.Prelude.{IsSome}
 use Rattle.std.proofs.lemmas.Bool.{cases_eq, eq-eqb, ne_eqb}
 use Rattle.tm_objects.specs.Live.{Live, HasLive, object_of, change, with_launches}
 use Rattle.tm_objects.proofs.At.{some_is}
-use Rattle.tm_objects.proofs.tests.Few.launch.Goals as goal
+use Rattle.tm_parts_tests.proofs.tests.objects.Few.launch.Goals as goal
 
 -- the object of an id after a launch began on it
 begun_at : {V : Type 0} (live : List (Live V)) (id : ℕ) (o : Live V) → object_of live id ≡ Some o → object_of (change id (λ p. with_launches (p.launches + 1) p) live) id ≡ Some (with_launches (o.launches + 1) o)
