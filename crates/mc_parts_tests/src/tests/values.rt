@@ -1,9 +1,6 @@
 //! Tables of values that the rules give, and each public call once.
-use crate::bytes::Bytes;
-use crate::class::class_of;
-use crate::expiry::{Expiry, due, expired};
-use crate::key::{Key, KeyRefused, is_key};
-use crate::number::{exptime, number};
+use mc_item::number::{exptime, number};
+use mc_item::{Bytes, Expiry, Key, KeyRefused, class_of, due, expired, is_key};
 use std::collections::{BTreeMap, HashMap};
 use std::mem::size_of;
 use std::test::Fail;

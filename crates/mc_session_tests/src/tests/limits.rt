@@ -1,8 +1,8 @@
 //! Sessions with large values, and with as many keys as a command may have.
 use super::{command_of, key_of, written};
-use crate::Session;
 use mc_item::{Bytes, Key, MOST_KEYS};
 use mc_model::{Command, How, Keys};
+use mc_session::Session;
 use std::alloc::Global;
 use std::hash::RandomState;
 use std::test::Fail;

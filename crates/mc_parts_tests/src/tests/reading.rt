@@ -1,8 +1,6 @@
 //! Rows: texts, and the messages that they read as by the rules of the protocol.
 
-use crate::pieces::{Reading, read_pieces};
-use crate::plain::read_plainly;
-use crate::reader::{Next, Reader};
+use mc_grammar::{Next, Reader, Reading, read_pieces, read_plainly};
 use mc_item::Bytes;
 use mc_model::{Command, Keys, Message};
 use std::alloc::{AllocError, Global};

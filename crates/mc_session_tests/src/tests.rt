@@ -4,9 +4,9 @@ ghost use Rattle.std.specs.Prelude.{None};
 
 mod limits;
 
-use crate::Session;
 use mc_item::{Bytes, Key};
 use mc_model::{Command, Fault, How, Keys};
+use mc_session::Session;
 use std::alloc::Global;
 use std::hash::RandomState;
 use std::test::Fail;

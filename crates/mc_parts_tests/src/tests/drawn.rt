@@ -1,8 +1,8 @@
 //! The class of `mc_shard` against the plain one, over operations that a generator draws.
 ghost use Rattle.std.specs.Prelude.{◌<◌};
 
-use crate::Plain;
 use mc_item::{Bytes, Key, MOST_CHANGES, USUAL_ITEMS};
+use mc_reference::Plain;
 use mc_shard::{How, Shard, ShardOp, ShardReply};
 use std::alloc::Global;
 use std::hash::RandomState;

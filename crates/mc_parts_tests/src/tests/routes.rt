@@ -1,9 +1,9 @@
 //! That calls succeed with ample memory, that the desk asks the classes where they were placed, and what a request
 //! weighs.
 
-use crate::{Ask, Desk, Planned, Store, join, plan, store_first};
 use mc_item::{Bytes, Key};
 use mc_model::{Command, How, Keys, Said, ShardReply, Shown};
+use mc_route::{Ask, Desk, Planned, Store, join, plan, store_first};
 use mc_shard::ShardOp;
 use std::alloc::Global;
 use std::hash::RandomState;

@@ -1,6 +1,7 @@
-use crate::render;
+//! The bytes of what is shown.
 use mc_item::{Bytes, Key};
 use mc_model::{Said, Shown, ShownItem, ShownItems};
+use mc_reply::render;
 use std::alloc::Global;
 use std::test::Fail;
 
