@@ -1,14 +1,10 @@
-//! Runs of the program over devices in memory. What a run must show comes from memcached's protocol.txt, and from the
-//! rules of docs/PROTOCOL.md.
-
-mod devices;
-mod long_rows;
-mod rows;
-
-use crate::status::Status;
-use crate::top::top_in_turns;
+//! The limit of an input. No public call takes another than [`MOST_INPUT`](crate::MOST_INPUT), so this one case stands
+//! here and not in `mc_top_tests`.
+use crate::connection::{End, answer_all};
+use crate::stop::Stop;
 use std::alloc::{AllocError, Global};
 use std::hash::RandomState;
+use std::test::Fail;
 use tm_base::{FreeGate, MemClock, MemSink, MemSource};
 
 // The moment at which rows run that name no clock.
@@ -27,51 +23,57 @@ fn text(alloc: Global, row: &str) -> Result<Vec<u8>, AllocError> {
     Ok(bytes)
 }
 
-fn words(alloc: Global, words: &[&str]) -> Result<Vec<String>, AllocError> {
-    let mut all = Vec::new(alloc);
-    for word in words {
-        all.push(String::from_str(alloc, word)?)?;
-    }
-    Ok(all)
-}
-
-// What `run --turns` writes for an input that comes in such pieces, and its status.
-fn run(
+// What is written for at most so many bytes of an input, and how it ends.
+fn run_limited(
     alloc: Global,
-    clock: &[u64],
-    input: &[u8],
+    most: u64,
+    input: Vec<u8>,
     cuts: Vec<usize>,
     hasher: RandomState,
-) -> Result<(Vec<u8>, Status), AllocError> {
-    let words = words(alloc, &["run", "--turns"])?;
-    let mut source = MemSource::new(Vec::from_slice(alloc, input)?, cuts, Vec::new(alloc));
+) -> Result<(Vec<u8>, Result<End, Stop>), AllocError> {
+    let mut source = MemSource::new(input, cuts, Vec::new(alloc));
     let mut sink = MemSink::new(alloc, 1 << 30, Vec::new(alloc));
-    let mut clock = MemClock::new(Vec::from_slice(alloc, clock)?);
-    let status = top_in_turns(
+    let mut clock = MemClock::new(vec![in alloc; NOW]?);
+    let end = answer_all(
         alloc,
-        &words,
+        most,
         &mut source,
         &mut sink,
         &mut clock,
         &FreeGate,
         hasher,
     );
-    Ok((Vec::from_slice(alloc, sink.bytes())?, status))
+    Ok((Vec::from_slice(alloc, sink.bytes())?, end))
 }
 
-// Whether the input is answered so, whole and in pieces of so many bytes.
-fn shows(
-    alloc: Global,
-    clock: &[u64],
-    input: &[u8],
-    piece: usize,
-    output: &[u8],
-    status: Status,
-    hasher: RandomState,
-) -> Result<bool, AllocError> {
-    let cuts = vec![in alloc; piece; input.len()]?;
-    let (whole, ended) = run(alloc, clock, input, Vec::new(alloc), hasher)?;
-    let (pieced, pieced_ended) = run(alloc, clock, input, cuts, hasher)?;
-    let whole = whole.as_slice() == output && ended == status;
-    Ok(whole && pieced.as_slice() == output && pieced_ended == status)
+// Only the first bytes are read, and a `quit` among them is an end.
+#[test]
+fn an_input_has_a_limit(rt: HostRuntime) -> Result<(), Fail> {
+    let alloc = rt.alloc();
+    let all = "STORED~VALUE a 5 3~abc~END~";
+    let rows = [
+        (25u64, "set a 5 0 3~abc~get a~", all, End::Between),
+        (24, "set a 5 0 3~abc~get a~", "STORED~", End::TooMuch),
+        (24, "set a 5 0 3~abc~get a", "STORED~", End::Inside),
+        (6, "quit~get a~", "", End::Between),
+        (5, "quit~get a~", "", End::TooMuch),
+        (0, "~", "", End::TooMuch),
+        (0, "", "", End::Between),
+    ];
+    for (most, input, output, end) in rows {
+        let read = text(alloc, input)?;
+        let wanted = text(alloc, output)?;
+        let ones = vec![in alloc; 1usize; read.len()]?;
+        let (written, whole) = run_limited(
+            alloc,
+            most,
+            read.clone()?,
+            Vec::new(alloc),
+            RandomState::new(&rt)?,
+        )?;
+        assert!(rt; written == wanted && whole == Ok(end), "{most} of {input}");
+        let (written, pieced) = run_limited(alloc, most, read, ones, RandomState::new(&rt)?)?;
+        assert!(rt; written == wanted && pieced == Ok(end), "{most} of {input}");
+    }
+    Ok(())
 }

@@ -1,6 +1,6 @@
 //! Short inputs, and what is written for them.
 use super::{NOW, shows, text};
-use crate::status::Status;
+use mc_top::Status;
 use std::hash::RandomState;
 use std::process::Abort;
 use std::test::Fail;

@@ -1,6 +1,6 @@
 //! Inputs at the limits of a key, a line and a value.
 use super::{NOW, shows, text};
-use crate::status::Status;
+use mc_top::Status;
 use std::alloc::{AllocError, Global};
 use std::hash::RandomState;
 use std::process::Abort;
