@@ -1,5 +1,5 @@
 -- What stands in a slot.
-use Rattle.std.specs.Prelude.{◌≡◌, ℕ, ◌≤◌, [], length, take, replicate, slice_index}
+use Rattle.std.specs.Prelude.{◌≡◌, ℕ, ◌≤◌, length, take, replicate, slice_index}
 use Rattle.tm_seq.specs.Kind.{Kind}
 use Rattle.tm_batch.specs.declared.batch.Batch.{Batch}
 use Rattle.tm_batch.specs.declared.message.AnswerBatch.{AnswerBatch}

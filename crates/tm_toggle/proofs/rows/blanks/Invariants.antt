@@ -1,5 +1,4 @@
-use Rattle.std.proofs.Common.{◌≡◌, ◌≤◌, ℕ, length, replicate}
-use Rattle.tm_batch.specs.declared.limits.TheConstants.{MOST_REQUESTS}
+use Rattle.std.proofs.Common.{◌≡◌, length, replicate}
 use Rattle.tm_toggle.proofs.rows.blanks.Given as goal
 
 abbrev pub invariant-loop : goal.invariant-loop

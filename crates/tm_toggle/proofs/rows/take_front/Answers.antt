@@ -1,4 +1,4 @@
-use Rattle.std.proofs.Common.{◌≡◌, ◌<◌, length, take, ap, arith, length-take-le}
+use Rattle.std.proofs.Common.{◌<◌, length, take, arith, length-take-le}
 use Rattle.tm_toggle.proofs.Fronts.{one_taken, one_further}
 use Rattle.tm_toggle.proofs.rows.take_front.Goals as goal
 

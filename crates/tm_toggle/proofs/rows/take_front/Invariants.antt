@@ -1,4 +1,4 @@
-use Rattle.std.proofs.Common.{◌≡◌, length, take, drop}
+use Rattle.std.proofs.Common.{◌≡◌, take, drop}
 use Rattle.tm_toggle.proofs.rows.take_front.Given as goal
 
 -- the first elements were taken, and the others are as they were

@@ -1,5 +1,4 @@
 use Rattle.tm_toggle.proofs.Counting.{batch_is, still_no_answers}
-use Rattle.std.proofs.Common.{◌≤◌, arith}
 use Rattle.tm_toggle.proofs.content.Content.put_batch.Goals as goal
 
 pub returns-clause-batch : goal.returns-clause-batch

@@ -1,4 +1,4 @@
-use Rattle.std.proofs.Common.{rules, ◌≡◌, ℕ, ◌≤◌, take, slice_set, sym, ◌∙◌, ap, subst, arith}
+use Rattle.std.proofs.Common.{rules, ℕ, ◌≤◌, take, slice_set, sym, ◌∙◌, ap, subst, arith}
 use Rattle.tm_batch.specs.declared.limits.TheConstants.{MOST_REQUESTS}
 use Rattle.tm_toggle.proofs.Counting.{other, still_no_requests, no_more_answers}
 use Rattle.tm_toggle.proofs.content.Content.take_answers.Goals as goal
