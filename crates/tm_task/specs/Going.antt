@@ -120,6 +120,7 @@ module _ {V T O R K U D Table Owner : Type 0} (theory : Theory V O R K Table D O
         → Runs theory kind rules old.trusts.items deeds (world_of theory kind rules old was tables) (world_of theory kind rules new now tables)
     pub moves : moved ≡ nat_lt 0 (moves_in deeds)
     pub turns : turns_in deeds ≡ []
+    pub many : length new.stages.items ≡ length old.stages.items
     pub rest : KeepsRest old new
 
   -- task n was started if it was not, and what it is to ask was asked, unless a request counts there already
@@ -127,7 +128,6 @@ module _ {V T O R K U D Table Owner : Type 0} (theory : Theory V O R K Table D O
     pub have : HaveMoved moved old new was now
     pub settled : (stage : Stage V T U O R K) → slice_get new.stages.items n ≡ Some stage → IsSettled now old.trusts.items stage
     pub others : (k : ℕ) → k ≢ n → slice_get new.stages.items k ≡ slice_get old.stages.items k
-    pub many : length new.stages.items ≡ length old.stages.items
     pub arrived : now.arrived ≡ was.arrived
     pub more : (t : ℕ) → counting_at was t ≤ counting_at now t
 
@@ -135,7 +135,6 @@ module _ {V T O R K U D Table Owner : Type 0} (theory : Theory V O R K Table D O
   pub record HaveGoneOn (n : ℕ) (moved : Bool) (old new : Tasks V T O R K U) (was now : Books V ℕ D O R K) : Type 0 where
     pub have : HaveMoved moved old new was now
     pub settled : (k : ℕ) (stage : Stage V T U O R K) → k < n → slice_get new.stages.items k ≡ Some stage → IsSettled now old.trusts.items stage
-    pub many : length new.stages.items ≡ length old.stages.items
     pub arrived : now.arrived ≡ was.arrived
 
   -- the client made its turns at these trustees; whether one sent a batch or got answers. Where none did, each was pending
