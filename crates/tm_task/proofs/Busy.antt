@@ -1,9 +1,11 @@
 -- The trustees at which a request counts.
-use Rattle.std.proofs.Common.{◌≡◌, ◌≢◌, ℕ, zero, suc, ◌+◌, ◌*◌, ◌≤◌, ◌<◌, ◌⊎◌, inl, inr, Bool, true, false, cond, List, [], ◌∷◌, ◌++◌, length, length-map, map, refl, sym, ◌∙◌, ap, subst, arith, eq-eqb, ne_eqb}
-use Rattle.std.specs.Prelude.{◌==◌, slice_get, slice_set}
+use Rattle.std.proofs.Common.{◌≡◌, ◌≢◌, ℕ, zero, suc, ◌+◌, ◌*◌, ◌≤◌, ◌<◌, ◌⊎◌, inl, inr, Bool, true, false, cond, List, [], ◌∷◌, ◌++◌, length, filter, map, refl, sym, ◌∙◌, ap, subst, arith, eq-eqb, ne_eqb}
+use Rattle.std.specs.Prelude.{◌==◌, slice_get, slice_set, IsSomeAnd}
 use Rattle.std.specs.declared.option.Option.{Option}
 use Rattle.std.specs.declared.option.Option.TheVariants.{None, Some}
 use Rattle.std.proofs.lemmas.Bool.{cases_eq}
+use Rattle.std.proofs.lemmas.List.{length-map}
+use Rattle.std.proofs.lemmas.List.Sums.{length-filter}
 use Rattle.std.proofs.lemmas.Option.{slice_get_within, slice_get_past}
 use Rattle.tm_seq.specs.Kind.{Kind}
 use Rattle.tm_model.specs.State.{State}
@@ -29,8 +31,12 @@ use Rattle.tm_task.specs.Progressing.{count_of, counting_at, busy_at, busy_below
 use Rattle.tm_task.specs.Stages.{is_ended, ended_in}
 use Rattle.tm_task.proofs.Places.{same_at_set, empty_parts}
 
+some_waits : (n id : ℕ) (ws : List (Waiting ℕ)) → 1 ≤ of_waiting n id ws → 1 ≤ length ws
+some_waits n id [] some = absurd (omega (arith, some))
+some_waits n id (w ∷ ws) some = omega arith
+
 module _ {V O R K D : Type 0} where
-  same_busy_at : (old new : Books V ℕ D O R K) → ((t : ℕ) → counting_at new t ≡ counting_at old t) → (t : ℕ) → busy_at new t ≡ busy_at old t
+  pub same_busy_at : (old new : Books V ℕ D O R K) → ((t : ℕ) → counting_at new t ≡ counting_at old t) → (t : ℕ) → busy_at new t ≡ busy_at old t
   same_busy_at old new same t = ap (λ n. cond (n == 0) [] (t ∷ [])) (same t)
 
   -- where as many count, the same trustees are busy
@@ -62,9 +68,19 @@ module _ {V O R K D : Type 0} where
   counting_within books t some =
       let (lane, e) = some_lane (slice_get books.lanes.items t) some in slice_get_within books.lanes.items t lane e
 
-  some_waits : (n id : ℕ) (ws : List (Waiting ℕ)) → 1 ≤ of_waiting n id ws → 1 ≤ length ws
-  some_waits n id [] some = absurd (omega (arith, some))
-  some_waits n id (w ∷ ws) some = omega arith
+  count_is : (o : Option (Lane V ℕ D O R K)) (count : ℕ) → IsSomeAnd o (λ lane. count ≡ lane.counting) → count_of o ≡ count
+  count_is None count h = absurd h
+  count_is (Some lane) count h = sym h
+
+  -- how many count at a trustee, as a client tells it
+  pub counting_is : (books : Books V ℕ D O R K) (t count : ℕ) → IsSomeAnd (slice_get books.lanes.items t) (λ lane. count ≡ lane.counting)
+      → counting_at books t ≡ count
+  counting_is books t count h = count_is (slice_get books.lanes.items t) count h
+
+  pub idle_at : (books : Books V ℕ D O R K) (t count : ℕ) → IsSomeAnd (slice_get books.lanes.items t) (λ lane. count ≡ lane.counting) → count ≡ 0
+      → busy_at books t ≡ []
+  idle_at books t count h zero_is =
+      let none : counting_at books t ≡ 0 = counting_is books t count h ∙ zero_is in ap (λ n. cond (n == 0) [] (t ∷ [])) none
 
   waiting_lane : (n id : ℕ) (o : Option (Lane V ℕ D O R K)) → 1 ≤ of_waiting n id (waiting_at o)
       → (lane : Lane V ℕ D O R K) × (o ≡ Some lane) × (1 ≤ length lane.afters.items)
@@ -136,7 +152,10 @@ module _ {V T U O R K : Type 0} where
   some_left (Asks i op task ∷ stages) ne = (0, Asks i op task, refl, refl)
   some_left (Waits i task ∷ stages) ne = (0, Waits i task, refl, refl)
   some_left (Ended out ∷ stages) ne =
-      let (n, stage, e, left) = some_left stages (λ same. ne (omega (arith, same))) in (suc n, stage, e, left)
+      let all = length-filter is_ended (Ended out ∷ stages) in
+      let rest = length-filter is_ended stages in
+      let more : length (filter is_ended (Ended out ∷ stages)) ≡ length (filter is_ended stages) + 1 = omega arith in
+      let (n, stage, e, left) = some_left stages (λ same. ne (omega (arith, same, all, rest, more))) in (suc n, stage, e, left)
 
   module _ {D : Type 0} (view : D → ClientView V O R K) (openings : ℕ → State V O R K) (books : Books V ℕ D O R K) (trusts : List Trust)
       (stages : List (Stage V T U O R K)) (is : IsClient view openings books) (theirs : AreTheirs trusts stages books) (empty : books.arrived.items ≡ []) where
@@ -150,7 +169,8 @@ module _ {V T U O R K : Type 0} where
         ap (awaits trusts trust.trustee trust.name.id) at in
         let of = ap (is_of trust.trustee trust.name.id) there in
         let own = at_own trust.trustee trust.name.id trust.name.id in
-        let one : cond (trust.name.id == trust.name.id) 1 0 ≡ 1 = ap (λ b. cond b 1 0) (eq-eqb trust.name.id trust.name.id refl) in
+        let unit : Bool → ℕ = λ b. cond b 1 0 in
+        let one : unit (trust.name.id == trust.name.id) ≡ 1 = ap unit (eq-eqb trust.name.id trust.name.id refl) in
         let none : of_arrived n trust.trustee trust.name.id books.arrived.items ≡ 0 = ap (of_arrived n trust.trustee trust.name.id) empty in
         (trust.trustee, waiting_counts view openings books is n trust.trustee trust.name.id (omega (arith, count, waits, of, own, one, none)))
 

@@ -1,6 +1,6 @@
 -- Deeds one after another.
 use Rattle.std.proofs.Common.{◌≡◌, ℕ, zero, suc, ◌+◌, ◌<◌, Bool, true, false, List, [], ◌∷◌, ◌++◌, length, map, refl, sym, ◌∙◌, ap, subst, arith}
-use Rattle.std.specs.Prelude.{◌||◌, nat_lt}
+use Rattle.std.specs.Prelude.{◌||◌}
 use Rattle.tm_seq.specs.Kind.{Kind}
 use Rattle.tm_pair.specs.Theory.{Theory}
 use Rattle.tm_client.specs.declared.answers.Turn.{Turn}
@@ -9,6 +9,7 @@ use Rattle.tm_client.specs.declared.trust.Trust.{Trust}
 use Rattle.tm_task.specs.declared.deed.Deed.{Deed}
 use Rattle.tm_task.specs.declared.deed.Deed.TheVariants.{Added, Started, Asked, Resumed, Turned}
 use Rattle.tm_task.specs.declared.stage.Stage.{Stage}
+use Rattle.tm_task.specs.Going.{is_some}
 use Rattle.tm_task.specs.Progressing.{moves_in, turns_in, went_in, all_pending}
 use Rattle.tm_task.specs.Rules.{Rules}
 use Rattle.tm_task.specs.Runs.{World, Does, Runs}
@@ -39,9 +40,9 @@ went_append ((t, Pending) ∷ xs) ys = went_append xs ys
 went_append ((t, Idle) ∷ xs) ys = went_append xs ys
 
 -- a sum is more than 0 where a part is
-pub some_of_two : (m n : ℕ) → nat_lt 0 (m + n) ≡ (nat_lt 0 m || nat_lt 0 n)
-some_of_two zero n = let e : 0 + n ≡ n = omega arith in ap (nat_lt 0) e
-some_of_two (suc m) n = let e : suc m + n ≡ suc (m + n) = omega arith in ap (nat_lt 0) e
+pub some_of_two : (m n : ℕ) → is_some (m + n) ≡ (is_some m || is_some n)
+some_of_two zero n = let e : 0 + n ≡ n = omega arith in ap is_some e
+some_of_two (suc m) n = let e : suc m + n ≡ suc (m + n) = omega arith in ap is_some e
 
 pub or_none : (a b : Bool) → (a || b) ≡ false → (a ≡ false) × (b ≡ false)
 or_none true b e = absurd cc

@@ -22,11 +22,11 @@ use Rattle.tm_task.specs.declared.stage.Stage.TheVariants.{Fresh, Asks, Waits, E
 use Rattle.tm_task.specs.declared.task.Move.{Move}
 use Rattle.tm_task.specs.declared.task.Move.TheVariants.{Apply, Done}
 use Rattle.tm_task.specs.declared.tasks.Tasks.{Tasks}
-use Rattle.tm_task.specs.Going.{IsSettled, KeepsRest, IsFreshAt, HasStarted, HasResumed, MayStart, HasAskedAt, HasNotAsked, MayAsk, HaveMoved, HasGoneOnAt, HaveGoneOn, HaveMadeTurns, has_gone}
+use Rattle.tm_task.specs.Going.{IsSettled, KeepsRest, IsFreshAt, HasStarted, HasResumed, MayStart, HasAskedAt, HasNotAsked, MayAsk, HaveMoved, HasGoneOnAt, HaveGoneOn, HaveMadeTurns, has_gone, is_some}
 use Rattle.tm_task.specs.Progressing.{moves_in, turns_in, went_in, counting_at, busy_at, busy_below, all_pending, world_of}
 use Rattle.tm_task.specs.Rules.{Rules}
 use Rattle.tm_task.specs.Runs.{World, Does, Runs}
-use Rattle.tm_task.specs.Stages.{stage_of, Goes, AreTasks}
+use Rattle.tm_task.specs.Stages.{is_fresh, stage_of, Goes, AreTasks}
 use Rattle.tm_task.proofs.Asks.{asked_more}
 use Rattle.tm_task.proofs.Busy.{turned_counting, turned_pending, busy_one, same_busy}
 use Rattle.tm_task.proofs.Chains.{moves_append, turns_append, went_append, some_of_two, or_none, pending_append, firsts_append, goes_then, runs_then, runs_none, runs_one, runs_goes}
@@ -52,12 +52,30 @@ module _ {V T O R K U : Type 0} where
     outs = s.outs ∙ f.outs;
   }
 
+module _ {V T U O R K : Type 0} where
+  pub fresh_there : (stage : Stage V T U O R K) → is_fresh stage ≡ true → (task : T) × (Some stage ≡ Some (Fresh task))
+  fresh_there (Fresh task) e = (task, refl)
+  fresh_there (Asks i op task) e = absurd cc
+  fresh_there (Waits i task) e = absurd cc
+  fresh_there (Ended out) e = absurd cc
+
+module _ {V T U O R K D : Type 0} where
+  -- a task that is to ask, at a trustee at which a request counts
+  pub blocked_by : (stages : List (Stage V T U O R K)) (trusts : List Trust) (n i0 : ℕ) (op0 : O) (task0 : T) (books : Books V ℕ D O R K) (trust : Trust)
+      → slice_get stages n ≡ Some (Asks i0 op0 task0) → slice_get trusts i0 ≡ Some trust → 1 ≤ counting_at books trust.trustee
+      → (i : ℕ) (op : O) (task : T) → slice_get stages n ≡ Some (Asks i op task)
+      → (t : Trust) × (slice_get trusts i ≡ Some t) × (1 ≤ counting_at books t.trustee)
+  blocked_by stages trusts n i0 op0 task0 books trust at of some i op task e =
+      let same : Asks i0 op0 task0 ≡ Asks i op task = read_some stages n (Asks i0 op0 task0) (Asks i op task) at e in
+      let is : i0 ≡ i = cc in
+      (trust, ap (λ k. slice_get trusts k) (sym is) ∙ of, some)
+
 module _ {V T O R K U D Table Owner : Type 0} (theory : Theory V O R K Table D Owner) (kind : Kind V O R K) (rules : Rules V T U O R K) where
   pub moved_none : (tasks : Tasks V T O R K U) (books : Books V ℕ D O R K) → HaveMoved theory kind rules false tasks tasks books books
   moved_none tasks books = record {
     deeds = [];
     told = sym (append_nil tasks.told.items);
-    runs = λ tables. runs_none theory kind rules tasks.trusts.items (world_of theory kind rules tasks books tables);
+    runs = λ tables. runs_none theory kind rules tasks.trusts.items (world_of tasks books tables);
     moves = refl;
     turns = refl;
     many = refl;
@@ -70,12 +88,12 @@ module _ {V T O R K U D Table Owner : Type 0} (theory : Theory V O R K Table D O
     deeds = f.deeds ++ s.deeds;
     told = s.told ∙ ap (λ l. l ++ s.deeds) f.told ∙ append_assoc old.told.items f.deeds s.deeds;
     runs = λ tables.
-        runs_then theory kind rules old.trusts.items f.deeds s.deeds (world_of theory kind rules old was tables)
-        (world_of theory kind rules mid between tables) (world_of theory kind rules new now tables) (f.runs tables)
-        (subst (λ (ts : List Trust). Runs theory kind rules ts s.deeds (world_of theory kind rules mid between tables) (world_of theory kind rules new now tables))
+        runs_then theory kind rules old.trusts.items f.deeds s.deeds (world_of old was tables)
+        (world_of mid between tables) (world_of new now tables) (f.runs tables)
+        (subst (λ (ts : List Trust). Runs theory kind rules ts s.deeds (world_of mid between tables) (world_of new now tables))
         (ap (λ v. v.items) f.rest.trusts) (s.runs tables));
-    moves = ap (λ x. x || b) f.moves ∙ ap (λ x. nat_lt 0 (moves_in f.deeds) || x) s.moves ∙ sym (some_of_two (moves_in f.deeds) (moves_in s.deeds))
-        ∙ ap (nat_lt 0) (sym (moves_append f.deeds s.deeds));
+    moves = ap (λ x. x || b) f.moves ∙ ap (λ x. is_some (moves_in f.deeds) || x) s.moves ∙ sym (some_of_two (moves_in f.deeds) (moves_in s.deeds))
+        ∙ ap is_some (sym (moves_append f.deeds s.deeds));
     turns = turns_append f.deeds s.deeds ∙ ap (λ l. l ++ turns_in s.deeds) f.turns ∙ s.turns;
     many = s.many ∙ f.many;
     rest = rest_then old mid new f.rest s.rest;
@@ -87,8 +105,8 @@ module _ {V T O R K U D Table Owner : Type 0} (theory : Theory V O R K Table D O
     deeds = Started n h.move ∷ [];
     told = h.told;
     runs = λ tables.
-        runs_one theory kind rules old.trusts.items (Started n h.move) (world_of theory kind rules old books tables)
-        (world_of theory kind rules new books tables) (record { steps = h.steps; calls = record { books = refl; tables = refl } });
+        runs_one theory kind rules old.trusts.items (Started n h.move) (world_of old books tables)
+        (world_of new books tables) (record { steps = h.steps; calls = record { books = refl; tables = refl } });
     moves = refl;
     turns = refl;
     many = ap length h.steps.now ∙ length-set old.stages.items n (stage_of (length old.trusts.items) h.move);
@@ -107,8 +125,8 @@ module _ {V T O R K U D Table Owner : Type 0} (theory : Theory V O R K Table D O
     deeds = Resumed n got h.move ∷ [];
     told = h.told;
     runs = λ tables.
-        runs_one theory kind rules old.trusts.items (Resumed n got h.move) (world_of theory kind rules old was tables)
-        (world_of theory kind rules new now tables) (record { steps = h.steps; calls = record { taken = taken; tables = refl } });
+        runs_one theory kind rules old.trusts.items (Resumed n got h.move) (world_of old was tables)
+        (world_of new now tables) (record { steps = h.steps; calls = record { taken = taken; tables = refl } });
     moves = refl;
     turns = refl;
     many = ap length h.steps.now ∙ length-set old.stages.items n (stage_of (length old.trusts.items) h.move);
@@ -121,8 +139,8 @@ module _ {V T O R K U D Table Owner : Type 0} (theory : Theory V O R K Table D O
     deeds = Asked n h.i h.op ∷ [];
     told = h.told;
     runs = λ tables.
-        runs_one theory kind rules old.trusts.items (Asked n h.i h.op) (world_of theory kind rules old was tables)
-        (world_of theory kind rules new now tables)
+        runs_one theory kind rules old.trusts.items (Asked n h.i h.op) (world_of old was tables)
+        (world_of new now tables)
         (record { steps = h.steps; calls = record { trust = h.trust; of_trust = h.of_trust; asked = h.asked; tables = refl } });
     moves = refl;
     turns = refl;
@@ -131,7 +149,7 @@ module _ {V T O R K U D Table Owner : Type 0} (theory : Theory V O R K Table D O
   }
 
   same_world : (old new : Tasks V T O R K U) (was now : Books V ℕ D O R K) (tables : List Table) → new.stages.items ≡ old.stages.items → now ≡ was
-      → world_of theory kind rules new now tables ≡ world_of theory kind rules old was tables
+      → world_of new now tables ≡ world_of old was tables
   same_world old new was now tables stages books =
       let W : List (Stage V T U O R K) → Books V ℕ D O R K → World V T U O R K D Table = λ s b. record { stages = s; books = b; tables = tables } in
       ap (λ s. W s now) stages ∙ ap (W old.stages.items) books
@@ -142,8 +160,8 @@ module _ {V T O R K U D Table Owner : Type 0} (theory : Theory V O R K Table D O
     deeds = [];
     told = h.told ∙ sym (append_nil old.told.items);
     runs = λ tables.
-        subst (λ w. Runs theory kind rules old.trusts.items [] (world_of theory kind rules old was tables) w)
-        (sym (same_world old new was now tables h.stages h.books)) (runs_none theory kind rules old.trusts.items (world_of theory kind rules old was tables));
+        subst (λ w. Runs theory kind rules old.trusts.items [] (world_of old was tables) w)
+        (sym (same_world old new was now tables h.stages h.books)) (runs_none theory kind rules old.trusts.items (world_of old was tables));
     moves = refl;
     turns = refl;
     many = ap length h.stages;
@@ -156,13 +174,12 @@ module _ {V T O R K U D Table Owner : Type 0} (theory : Theory V O R K Table D O
   may_ask_moves n old new was now (inr h) = not_asked_moves n old new was now h
 
   -- a move never leaves a task fresh
-  cond_not_fresh : (b : Bool) (i : ℕ) (op : O) (task other : T)
-      → cond b (Asks {V = V} {T = T} {U = U} {O = O} {R = R} {K = K} i op task) (Ended None) ≡ Fresh other → ⊥
-  cond_not_fresh true i op task other e = cc
-  cond_not_fresh false i op task other e = cc
+  cond_not_fresh : (b : Bool) (x y : Stage V T U O R K) (other : T) → (x ≡ Fresh other → ⊥) → (y ≡ Fresh other → ⊥) → cond b x y ≡ Fresh other → ⊥
+  cond_not_fresh true x y other f h e = f e
+  cond_not_fresh false x y other f h e = h e
 
   moved_not_fresh : (count : ℕ) (move : Move V T U O R K) (other : T) → stage_of count move ≡ Fresh other → ⊥
-  moved_not_fresh count (Apply i op task) other e = cond_not_fresh (nat_lt i count) i op task other e
+  moved_not_fresh count (Apply i op task) other e = cond_not_fresh (nat_lt i count) (Asks i op task) (Ended None) other (λ f. cc) (λ f. cc) e
   moved_not_fresh count (Done out) other e = cc
 
   not_fresh : (n : ℕ) (b : Bool) (old mid : Tasks V T O R K U) → MayStart rules n b old mid → (task : T) → slice_get mid.stages.items n ≡ Some (Fresh task) → ⊥
@@ -264,7 +281,7 @@ module _ {V T O R K U D Table Owner : Type 0} (theory : Theory V O R K Table D O
   turns_none busy tasks books tables e = record {
     deeds = [];
     told = sym (append_nil tasks.told.items);
-    runs = runs_none theory kind rules tasks.trusts.items (world_of theory kind rules tasks books tables);
+    runs = runs_none theory kind rules tasks.trusts.items (world_of tasks books tables);
     moves = refl;
     turns = sym e;
     went_is = refl;
@@ -275,30 +292,30 @@ module _ {V T O R K U D Table Owner : Type 0} (theory : Theory V O R K Table D O
     rest = rest_same tasks;
   }
 
-  went_one : (t : ℕ) (turn : Turn) → has_gone turn ≡ nat_lt 0 (went_in ((t, turn) ∷ []))
+  went_one : (t : ℕ) (turn : Turn) → has_gone turn ≡ is_some (went_in ((t, turn) ∷ []))
   went_one t (Sent m) = refl
   went_one t (GotSome m) = refl
   went_one t Pending = refl
   went_one t Idle = refl
 
   pub turns_one : (openings : ℕ → State V O R K) (t : ℕ) (turn : Turn) (before after : Table) (old new : Tasks V T O R K U) (was now : Books V ℕ D O R K)
-      (tables then : List Table) → IsClient theory.client_view openings was → HasTurned theory kind t turn before after was now → 1 ≤ counting_at was t
-      → slice_get tables t ≡ Some before → then ≡ slice_set tables t after → new.told.items ≡ old.told.items ++ Turned t turn ∷ []
+      (tables later : List Table) (went : Bool) → went ≡ has_gone turn → IsClient theory.client_view openings was → HasTurned theory kind t turn before after was now → 1 ≤ counting_at was t
+      → slice_get tables t ≡ Some before → later ≡ slice_set tables t after → new.told.items ≡ old.told.items ++ Turned t turn ∷ []
       → new.stages.items ≡ old.stages.items → KeepsRest old new
-      → HaveMadeTurns theory kind rules (busy_at was t) (has_gone turn) old new was now tables then
-  turns_one openings t turn before after old new was now tables then is turned some of set told stages rest =
+      → HaveMadeTurns theory kind rules (busy_at was t) went old new was now tables later
+  turns_one openings t turn before after old new was now tables later went gone is turned some of set told stages rest =
       let one = busy_one was t some in
       record {
         deeds = Turned t turn ∷ [];
         told = told;
         runs =
-            runs_one theory kind rules old.trusts.items (Turned t turn) (world_of theory kind rules old was tables) (world_of theory kind rules new now then)
+            runs_one theory kind rules old.trusts.items (Turned t turn) (world_of old was tables) (world_of new now later)
             (record { steps = stages; calls = record { table = before; becomes = after; of_table = of; turned = turned; tables = set } });
         moves = refl;
         turns = sym one;
-        went_is = went_one t turn;
+        went_is = gone ∙ went_one t turn;
         pending = λ none empty.
-            let (pending, left) = turned_pending theory kind openings t turn before after was now is turned none empty some in
+            let (pending, left) = turned_pending theory kind openings t turn before after was now is turned (sym gone ∙ none) empty some in
             (ap (λ x. (t, x) ∷ []) pending ∙ ap all_pending (sym one), left);
         counting = turned_counting theory kind t turn before after was now turned;
         stages = stages;
@@ -315,16 +332,16 @@ module _ {V T O R K U D Table Owner : Type 0} (theory : Theory V O R K Table D O
         deeds = f.deeds ++ s.deeds;
         told = s.told ∙ ap (λ l. l ++ s.deeds) f.told ∙ append_assoc old.told.items f.deeds s.deeds;
         runs =
-            runs_then theory kind rules old.trusts.items f.deeds s.deeds (world_of theory kind rules old was before)
-            (world_of theory kind rules mid between through) (world_of theory kind rules new now after) f.runs
-            (subst (λ (ts : List Trust). Runs theory kind rules ts s.deeds (world_of theory kind rules mid between through) (world_of theory kind rules new now after))
+            runs_then theory kind rules old.trusts.items f.deeds s.deeds (world_of old was before)
+            (world_of mid between through) (world_of new now after) f.runs
+            (subst (λ (ts : List Trust). Runs theory kind rules ts s.deeds (world_of mid between through) (world_of new now after))
             (ap (λ v. v.items) f.rest.trusts) s.runs);
         moves = let both = moves_append f.deeds s.deeds in let x = f.moves in let y = s.moves in omega (arith, both, x, y);
         turns = ap (map (λ turn. turn.0)) appended ∙ firsts_append (turns_in f.deeds) (turns_in s.deeds)
             ∙ ap (λ l. l ++ map (λ turn. turn.0) (turns_in s.deeds)) f.turns ∙ ap (λ l. first ++ l) s.turns;
-        went_is = ap (λ x. x || b) f.went_is ∙ ap (λ x. nat_lt 0 (went_in (turns_in f.deeds)) || x) s.went_is
+        went_is = ap (λ x. x || b) f.went_is ∙ ap (λ x. is_some (went_in (turns_in f.deeds)) || x) s.went_is
             ∙ sym (some_of_two (went_in (turns_in f.deeds)) (went_in (turns_in s.deeds)))
-            ∙ ap (nat_lt 0) (sym (went_append (turns_in f.deeds) (turns_in s.deeds))) ∙ ap (λ l. nat_lt 0 (went_in l)) (sym appended);
+            ∙ ap is_some (sym (went_append (turns_in f.deeds) (turns_in s.deeds))) ∙ ap (λ l. is_some (went_in l)) (sym appended);
         pending = λ none empty.
             let (x, y) = or_none a b none in
             let (here, left) = f.pending x empty in

@@ -5,5 +5,5 @@ mod Doing
 mod Places
 mod Ranges
 pub mod Theirs
-mod Turning
+mod WholeTurn
 mod Worlds

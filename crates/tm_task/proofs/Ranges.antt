@@ -16,14 +16,13 @@ use Rattle.tm_task.specs.Stages.{stage_of, Steps, Goes}
 use Rattle.tm_task.proofs.Places.{push_cases}
 
 module _ {V T U O R K : Type 0} (count : ℕ) where
-  -- what a task is at after a move that names a trust that is there, or not
-  asks_in_range : (b : Bool) (i : ℕ) (op : O) (task : T) → (b ≡ true → i < count)
-      → IsInRange {V = V} {T = T} {U = U} {O = O} {R = R} {K = K} count (cond b (Asks i op task) (Ended None))
-  asks_in_range true i op task lt = lt refl
-  asks_in_range false i op task lt = tt
+  cond_in_range : (b : Bool) (x y : Stage V T U O R K) → (b ≡ true → IsInRange count x) → IsInRange count y → IsInRange count (cond b x y)
+  cond_in_range true x y f h = f refl
+  cond_in_range false x y f h = h
 
+  -- after a move a task asks a trust that is there, or has ended
   pub move_in_range : (move : Move V T U O R K) → IsInRange count (stage_of count move)
-  move_in_range (Apply i op task) = asks_in_range (nat_lt i count) i op task (λ e. ltb-true i count e)
+  move_in_range (Apply i op task) = cond_in_range (nat_lt i count) (Asks i op task) (Ended None) (λ e. ltb-true i count e) tt
   move_in_range (Done out) = tt
 
   set_in_range : (stages : List (Stage V T U O R K)) (n : ℕ) (stage : Stage V T U O R K) → AreInRange count stages → IsInRange count stage
@@ -50,7 +49,7 @@ module _ {V T U O R K : Type 0} (count : ℕ) where
     step_in_range (Resumed n got move) old new h all = subst (λ s. AreInRange count s) (sym h.now) (set_in_range old n _ all (move_in_range move))
     step_in_range (Turned t turn) old new h all = subst (λ s. AreInRange count s) (sym h) all
 
-    going_in_range : (deeds : List (Deed V T U O R K)) (old new : List (Stage V T U O R K)) → Goes rules count deeds old new → AreInRange count old
+    pub going_in_range : (deeds : List (Deed V T U O R K)) (old new : List (Stage V T U O R K)) → Goes rules count deeds old new → AreInRange count old
         → AreInRange count new
     unfolding Goes
     going_in_range [] old new same all = subst (λ s. AreInRange count s) (sym same) all

@@ -40,6 +40,10 @@ use Rattle.tm_task.proofs.Places.{set_here, set_other, same_at_set}
 abbrev one_for : ℕ → ℕ → ℕ → ℕ → ℕ → ℕ → ℕ
 one_for n t id after trustee named = cond (after == n) (is_at t id trustee named) 0
 
+cond_none : (b : Bool) (k : ℕ) → k ≡ 0 → cond b k 0 ≡ 0
+cond_none true k e = e
+cond_none false k e = refl
+
 waiting_append : (n id : ℕ) (xs ys : List (Waiting ℕ)) → of_waiting n id (xs ++ ys) ≡ of_waiting n id xs + of_waiting n id ys
 waiting_append n id [] ys = omega arith
 waiting_append n id (x ∷ xs) ys = let more = waiting_append n id xs ys in omega (arith, more)
@@ -60,10 +64,6 @@ module _ {V O R K : Type 0} where
       let one : one_for n t id w.after t w.name.id ≡ cond (w.after == n) (cond (w.name.id == id) 1 0) 0 =
       ap (λ k. cond (w.after == n) k 0) (at_own t id w.name.id) in
       omega (arith, more, one)
-
-  cond_none : (b : Bool) (k : ℕ) → k ≡ 0 → cond b k 0 ≡ 0
-  cond_none true k e = e
-  cond_none false k e = refl
 
   came_elsewhere : (n u t id : ℕ) (ws : List (Waiting ℕ)) (answers : List (Answer V O R K)) → u ≢ t → of_arrived n u id (arrivals_of t ws answers) ≡ 0
   came_elsewhere n u t id [] answers ne = refl
@@ -110,7 +110,7 @@ module _ {V O R K D : Type 0} where
       let still = lane_elsewhere n id old.lanes.items trustee t h.becomes ne in
       let moved : waits_for n id (slice_get new.lanes.items t) ≡ waits_for n id (slice_get (slice_set old.lanes.items trustee h.becomes) t) =
       ap (λ (l : List (Lane V ℕ D O R K)). waits_for n id (slice_get l t)) h.lanes in
-      let one = cond_none {V = V} {O = O} {R = R} {K = K} (n0 == n) (is_at t id trustee name.id) (at_other t trustee id name.id ne) in
+      let one = cond_none (n0 == n) (is_at t id trustee name.id) (at_other t trustee id name.id ne) in
       let arrived : of_arrived n t id new.arrived.items ≡ of_arrived n t id old.arrived.items = ap (λ a. of_arrived n t id a.items) h.rest.arrived in
       omega (arith, still, moved, one, arrived)
 
@@ -202,11 +202,18 @@ same_object t id u named some =
         inl e ↦ elim (cases_eq named id) [
             inl f ↦ (e, f)
           | inr ne ↦ let zero_is : cond (named == id) 1 0 ≡ 0 = ap (λ b. cond b 1 0) (ne_eqb named id ne) in
-              let zero : is_at t id u named ≡ 0 = cond_none {V = ℕ} {O = ℕ} {R = ℕ} {K = ℕ} (u == t) (cond (named == id) 1 0) zero_is in
+              let zero : is_at t id u named ≡ 0 = cond_none (u == t) (cond (named == id) 1 0) zero_is in
               absurd (omega (arith, some, zero))
         ]
       | inr ne ↦ let zero = at_other t u id named (λ e. ne (sym e)) in absurd (omega (arith, some, zero))
     ]
+
+one_own : (n t id : ℕ) → one_for n t id n t id ≡ 1
+one_own n t id =
+    ap (λ b. cond b (is_at t id t id) 0) (eq-eqb n n refl) ∙ at_own t id id ∙ ap (λ b. cond b 1 0) (eq-eqb id id refl)
+
+one_other : (n t id m u named : ℕ) → n ≢ m → one_for n t id m u named ≡ 0
+one_other n t id m u named ne = ap (λ b. cond b (is_at t id u named) 0) (ne_eqb m n (λ e. ne (sym e)))
 
 is_of_one : (o : Option Trust) (t id : ℕ) → 1 ≤ is_of t id o → (u named : ℕ) → is_of u named o ≡ is_at u named t id
 is_of_one None t id some u named = absurd (omega (arith, some))
@@ -224,8 +231,8 @@ module _ {V T U O R K : Type 0} (trusts : List Trust) where
 
   cond_awaits : (b : Bool) (x y : Stage V T U O R K) (t id : ℕ) → awaits trusts t id (Some x) ≡ 0 → awaits trusts t id (Some y) ≡ 0
       → awaits trusts t id (Some (cond b x y)) ≡ 0
-  cond_awaits true x y t id first then = first
-  cond_awaits false x y t id first then = then
+  cond_awaits true x y t id first last = first
+  cond_awaits false x y t id first last = last
 
   -- a task that made a move waits for nothing yet
   moved_awaits : (count : ℕ) (move : Move V T U O R K) (t id : ℕ) → awaits trusts t id (Some (stage_of count move)) ≡ 0
@@ -241,13 +248,6 @@ module _ {V T U O R K : Type 0} (trusts : List Trust) where
   awaits_some t id (Some (Ended out)) some = absurd (omega (arith, some))
 
   module _ {D : Type 0} where
-    one_own : (n t id : ℕ) → one_for n t id n t id ≡ 1
-    one_own n t id =
-        ap (λ b. cond b (is_at t id t id) 0) (eq-eqb n n refl) ∙ at_own t id id ∙ ap (λ b. cond b 1 0) (eq-eqb id id refl)
-
-    one_other : (n t id m u named : ℕ) → n ≢ m → one_for n t id m u named ≡ 0
-    one_other n t id m u named ne = ap (λ b. cond b (is_at t id u named) 0) (ne_eqb m n (λ e. ne (sym e)))
-
     -- the answer that is taken is one for which its task waits, of the object that it asked
     pub taken_awaits : (n : ℕ) (got : Got V O R K) (stages : List (Stage V T U O R K)) (old new : Books V ℕ D O R K) → AreTheirs trusts stages old
         → (h : HasTaken n got old new)
@@ -295,7 +295,7 @@ module _ {V T U O R K D Table Owner : Type 0} (theory : Theory V O R K Table D O
         | inr ne ↦
               let at : awaits trusts t id (slice_get (slice_set old n0 (Waits i h.task)) n) ≡ awaits trusts t id (slice_get old n) =
               ap (awaits trusts t id) (set_other old n0 n (Waits i h.task) ne) in
-              let none = one_other {V = V} {T = T} {U = U} {O = O} {R = R} {K = K} trusts {D = D} n t id n0 trust.trustee trust.name.id ne in
+              let none = one_other n t id n0 trust.trustee trust.name.id ne in
               omega (arith, now, at, none)
       ]
 
@@ -337,7 +337,7 @@ module _ {V T U O R K D Table Owner : Type 0} (theory : Theory V O R K Table D O
                   ≡ awaits trusts t id (slice_get was.stages n) =
               ap (awaits trusts t id) (set_other was.stages n0 n (stage_of (length trusts) move) ne) in
               let less = taken_counts n0 got was.books now.books taken n t id in
-              let none = one_other {V = V} {T = T} {U = U} {O = O} {R = R} {K = K} trusts {D = D} n t id n0 taken.t taken.name.id ne in
+              let none = one_other n t id n0 taken.t taken.name.id ne in
               let count = theirs n t id in
               omega (arith, now_is, at, less, none, count)
       ]

@@ -5,6 +5,7 @@ use Rattle.std.specs.List.{AllByRecursion}
 use Rattle.std.specs.declared.option.Option.{Option}
 use Rattle.std.specs.declared.option.Option.TheVariants.{None, Some}
 use Rattle.std.proofs.lemmas.Bool.{cases_eq}
+use Rattle.std.proofs.lemmas.Option.{slice_get_within}
 use Rattle.tm_seq.specs.Kind.{Kind}
 use Rattle.tm_batch.specs.declared.message.Name.{Name}
 use Rattle.tm_batch.specs.declared.message.Answer.{Answer}
@@ -24,7 +25,7 @@ use Rattle.tm_client.specs.Asking.{IsHeldBy, IsOpen}
 use Rattle.tm_client.specs.Listing.{hold_of, held_at, HasHold, Gains}
 use Rattle.tm_client.specs.Taking.{IsGot}
 use Rattle.tm_client.specs.Turns.{HasTurned}
-use Rattle.tm_client.proofs.Elements.{set_cases}
+use Rattle.tm_client.proofs.Elements.{element_at, set_cases}
 use Rattle.tm_task.specs.declared.deed.Deed.{Deed}
 use Rattle.tm_task.specs.declared.deed.Deed.TheVariants.{Added, Started, Asked, Resumed, Turned}
 use Rattle.tm_task.specs.Ours.{HoldsOpen, AreTables}
@@ -43,10 +44,10 @@ gains_has h g at old new gains (k, there) =
       | inr ne ↦ (k, gains.updates.others k ne ∙ there)
     ]
 
-module _ {V O R K : Type 0} where
-  same_has : (h : Hold) (old new : Holds) → new ≡ old → HasHold old h → HasHold new h
-  same_has h old new e has = subst (λ holds. HasHold holds h) (sym e) has
+same_has : (h : Hold) (old new : Holds) → new ≡ old → HasHold old h → HasHold new h
+same_has h old new e has = subst (λ holds. HasHold holds h) (sym e) has
 
+module _ {V O R K : Type 0} where
   -- what stands in the list stays there when an answer is taken
   got_has : (t c : ℕ) (name : Name) (a : Answer V O R K) (got : Got V O R K) (h : Hold) (old new : Holds) → IsGot t c name a got old new
       → HasHold old h → HasHold new h
@@ -78,7 +79,7 @@ module _ {V O R K D : Type 0} where
   same_holds : (old new : Books V ℕ D O R K) → new ≡ old → StillHolds old new
   same_holds old new e = record {
     number = ap (λ b. b.number) e;
-    held = λ h has. same_has {V = V} {O = O} {R = R} {K = K} h old.held new.held (ap (λ b. b.held) e) has;
+    held = λ h has. same_has h old.held new.held (ap (λ b. b.held) e) has;
     open_ = λ t o. subst (λ b. IsOpen b t) (sym e) o;
   }
 
@@ -98,7 +99,7 @@ module _ {V T U O R K D Table Owner : Type 0} (theory : Theory V O R K Table D O
       let asked = h.calls.asked in
       record {
         number = asked.rest.number;
-        held = λ x has. same_has {V = V} {O = O} {R = R} {K = K} x was.books.held now.books.held asked.rest.held has;
+        held = λ x has. same_has x was.books.held now.books.held asked.rest.held has;
         open_ = open_set h.calls.trust.trustee asked.lane asked.becomes was.books now.books asked.of_lane asked.lanes asked.accepts.closing;
       }
   deed_holds (Resumed n got move) was now h =
@@ -112,7 +113,7 @@ module _ {V T U O R K D Table Owner : Type 0} (theory : Theory V O R K Table D O
       let turns = h.calls.turned.turns in
       record {
         number = turns.number;
-        held = λ x has. same_has {V = V} {O = O} {R = R} {K = K} x was.books.held now.books.held turns.held has;
+        held = λ x has. same_has x was.books.held now.books.held turns.held has;
         open_ = open_set t h.calls.turned.lane h.calls.turned.becomes was.books now.books turns.of_lane turns.lanes turns.closing;
       }
 
@@ -139,6 +140,16 @@ module _ {V O R K D Table Owner : Type 0} (theory : Theory V O R K Table D Owner
         ];
     opens = are.opens;
   }
+
+  -- a client may make its turn at each of its tables
+  pub may_turn : (books : Books V ℕ D O R K) (tables : List Table) (t : ℕ) (table : Table) → AreTables theory openings books tables
+      → slice_get tables t ≡ Some table
+      → IsSomeAnd (slice_get books.lanes.items t) (λ lane. theory.HasClient table lane.side) × (openings t ≡ theory.opening table)
+  may_turn books tables t table are at =
+      let within = slice_get_within tables t table at in
+      let many = are.as_many in
+      let (lane, of) = element_at books.lanes.items t (omega (arith, within, many)) in
+      (subst (λ o. IsSomeAnd o (λ (x : Lane V ℕ D O R K). theory.HasClient table x.side)) (sym of) (are.mine t table lane at of), are.opens t table at)
 
   pub tables_turned : (kind : Kind V O R K) (t0 : ℕ) (turn : Turn) (was now : Table) (old new : Books V ℕ D O R K) (before after : List Table)
       → slice_get before t0 ≡ Some was → after ≡ slice_set before t0 now → HasTurned theory kind t0 turn was now old new

@@ -1,5 +1,5 @@
 -- What the parts of a turn of tasks do.
-use Rattle.std.specs.Prelude.{◌≡◌, ℕ, ◌<◌, ◌≤◌, ◌⊎◌, nat_lt, Bool, true, false, List, [], ◌∷◌, ◌++◌, length, map, vec_capacity, slice_get}
+use Rattle.std.specs.Prelude.{◌≡◌, ◌≢◌, ℕ, zero, suc, ◌<◌, ◌≤◌, ◌⊎◌, Bool, true, false, List, [], ◌∷◌, ◌++◌, length, map, vec_capacity, slice_get}
 use Rattle.std.specs.declared.option.Option.TheVariants.{Some}
 use Rattle.tm_seq.specs.Kind.{Kind}
 use Rattle.tm_batch.specs.declared.message.Request.TheVariants.{Apply}
@@ -29,6 +29,11 @@ has_gone (Sent n) = true
 has_gone (GotSome n) = true
 has_gone Pending = false
 has_gone Idle = false
+
+-- a number is more than 0
+abbrev pub is_some : ℕ → Bool
+is_some zero = false
+is_some (suc n) = true
 
 -- what a turn says, by whether all have ended and whether something moved
 abbrev pub ProgressOf : Bool → Bool → Progress → Type 0
@@ -117,8 +122,8 @@ module _ {V T O R K U D Table Owner : Type 0} (theory : Theory V O R K Table D O
     pub deeds : List (Deed V T U O R K)
     pub told : new.told.items ≡ old.told.items ++ deeds
     pub runs : (tables : List Table)
-        → Runs theory kind rules old.trusts.items deeds (world_of theory kind rules old was tables) (world_of theory kind rules new now tables)
-    pub moves : moved ≡ nat_lt 0 (moves_in deeds)
+        → Runs theory kind rules old.trusts.items deeds (world_of old was tables) (world_of new now tables)
+    pub moves : moved ≡ is_some (moves_in deeds)
     pub turns : turns_in deeds ≡ []
     pub many : length new.stages.items ≡ length old.stages.items
     pub rest : KeepsRest old new
@@ -142,10 +147,10 @@ module _ {V T O R K U D Table Owner : Type 0} (theory : Theory V O R K Table D O
       : Type 0 where
     pub deeds : List (Deed V T U O R K)
     pub told : new.told.items ≡ old.told.items ++ deeds
-    pub runs : Runs theory kind rules old.trusts.items deeds (world_of theory kind rules old was before) (world_of theory kind rules new now after)
+    pub runs : Runs theory kind rules old.trusts.items deeds (world_of old was before) (world_of new now after)
     pub moves : moves_in deeds ≡ 0
     pub turns : map (λ turn. turn.0) (turns_in deeds) ≡ busy
-    pub went_is : went ≡ nat_lt 0 (went_in (turns_in deeds))
+    pub went_is : went ≡ is_some (went_in (turns_in deeds))
     pub pending : went ≡ false → was.arrived.items ≡ [] → (turns_in deeds ≡ all_pending busy) × (now.arrived.items ≡ [])
     pub counting : (t : ℕ) → counting_at now t ≡ counting_at was t
     pub stages : new.stages.items ≡ old.stages.items

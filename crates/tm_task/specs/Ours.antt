@@ -6,12 +6,14 @@ use Rattle.std.specs.declared.option.Option.TheVariants.{None, Some}
 use Rattle.tm_batch.specs.declared.limits.TheConstants.{MOST_TRUSTEES}
 use Rattle.tm_model.specs.State.{State}
 use Rattle.tm_pair.specs.Theory.{Theory}
+use Rattle.tm_pair.specs.Views.{ClientView}
 use Rattle.tm_client.specs.declared.answers.Arrival.{Arrival}
 use Rattle.tm_client.specs.declared.books.Books.{Books}
 use Rattle.tm_client.specs.declared.lane.Lane.{Lane}
 use Rattle.tm_client.specs.declared.lane.Waiting.{Waiting}
 use Rattle.tm_client.specs.declared.trust.Trust.{Trust}
 use Rattle.tm_client.specs.Asking.{IsHeldBy, IsOpen}
+use Rattle.tm_client.specs.Clients.{IsClient}
 use Rattle.tm_client.specs.Listing.{is_at}
 use Rattle.tm_task.specs.declared.stage.Stage.{Stage}
 use Rattle.tm_task.specs.declared.stage.Stage.TheVariants.{Waits}
@@ -66,3 +68,22 @@ module _ {V O R K C D : Type 0} where
       pub mine : (t : ℕ) (table : Table) (lane : Lane V C D O R K) → slice_get tables t ≡ Some table → slice_get books.lanes.items t ≡ Some lane
           → theory.HasClient table lane.side
       pub opens : (t : ℕ) (table : Table) → slice_get tables t ≡ Some table → openings t ≡ theory.opening table
+
+    -- so it is of a client, in whatever states they opened
+    abbrev pub AreOfClient : Books V C D O R K → List Table → Type 0
+    AreOfClient books tables =
+        (openings : ℕ → State V O R K) × AreTables openings books tables × IsClient theory.client_view openings books
+
+    -- a client stays one, with its tables
+    abbrev pub KeepsTables : Books V C D O R K → Books V C D O R K → List Table → List Table → Type 0
+    KeepsTables was now before after =
+        (openings : ℕ → State V O R K) → AreTables openings was before → IsClient theory.client_view openings was
+        → AreTables openings now after × IsClient theory.client_view openings now
+
+  module _ (view : D → ClientView V O R K) where
+    -- a client, in whatever states its trustees opened; and it stays one
+    abbrev pub IsOne : Books V C D O R K → Type 0
+    IsOne books = (openings : ℕ → State V O R K) × IsClient view openings books
+
+    abbrev pub StaysOne : Books V C D O R K → Books V C D O R K → Type 0
+    StaysOne was now = (openings : ℕ → State V O R K) → IsClient view openings was → IsClient view openings now

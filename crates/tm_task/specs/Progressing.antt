@@ -69,10 +69,11 @@ module _ {V T U O R K : Type 0} where
   Tells StillPending deeds stages busy =
       (ended_in stages ≢ length stages) × (moves_in deeds ≡ 0) × (busy ≢ []) × (turns_in deeds ≡ all_pending busy)
 
-module _ {V T O R K U D Table Owner : Type 0} (theory : Theory V O R K Table D Owner) (kind : Kind V O R K) (rules : Rules V T U O R K) where
+module _ {V T O R K U D Table : Type 0} where
   abbrev pub world_of : Tasks V T O R K U → Books V ℕ D O R K → List Table → World V T U O R K D Table
   world_of tasks books tables = record { stages = tasks.stages.items; books = books; tables = tables }
 
+module _ {V T O R K U D Table Owner : Type 0} (theory : Theory V O R K Table D Owner) (kind : Kind V O R K) (rules : Rules V T U O R K) where
   -- a turn of tasks: what it did to them, to their client and to the tables, and what it says
   pub record HaveTurned (progress : Progress) (old new : Tasks V T O R K U) (was now : Books V ℕ D O R K) (before after : List Table) : Type 0 where
     pub deeds : List (Deed V T U O R K)

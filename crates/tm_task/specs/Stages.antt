@@ -41,6 +41,12 @@ module _ {V T U O R K : Type 0} where
   out_of (Ended out) = out
   out_of _ = None
 
+  -- task n was to ask the trust of index i to run an operation, and waits for the answer
+  pub record IsAsked (n i : ℕ) (op : O) (old new : List (Stage V T U O R K)) : Type 0 where
+    pub task : T
+    pub was : slice_get old n ≡ Some (Asks i op task)
+    pub now : new ≡ slice_set old n (Waits i task)
+
 module _ {V T U O R K : Type 0} (rules : Rules V T U O R K) (count : ℕ) where
   -- task n was fresh, and made a lawful first move
   pub record IsStarted (n : ℕ) (move : Move V T U O R K) (old new : List (Stage V T U O R K)) : Type 0 where
@@ -48,12 +54,6 @@ module _ {V T U O R K : Type 0} (rules : Rules V T U O R K) (count : ℕ) where
     pub was : slice_get old n ≡ Some (Fresh task)
     pub begins : Begins rules task move
     pub now : new ≡ slice_set old n (stage_of count move)
-
-  -- task n was to ask the trust of index i to run an operation, and waits for the answer
-  pub record IsAsked (n i : ℕ) (op : O) (old new : List (Stage V T U O R K)) : Type 0 where
-    pub task : T
-    pub was : slice_get old n ≡ Some (Asks i op task)
-    pub now : new ≡ slice_set old n (Waits i task)
 
   -- task n waited for an answer, and made a lawful move at one
   pub record IsResumed (n : ℕ) (got : Got V O R K) (move : Move V T U O R K) (old new : List (Stage V T U O R K)) : Type 0 where

@@ -1,5 +1,5 @@
 //! Many tasks that share a client.
-ghost use Rattle.std.specs.Prelude.{◌≡◌, ℕ, ◌↔◌, length, map, slice_get, IsErr, OnOk, OnErr, IfOk, IfErr};
+ghost use Rattle.std.specs.Prelude.{◌≡◌, ◌≢◌, ℕ, ◌↔◌, false, length, map, slice_get, IsErr, IsTrue, OnOk, OnErr, IfOk, IfErr};
 ghost use Rattle.tm_task.specs.Ours.{awaits};
 ghost use Rattle.tm_task.specs.Stages.{AreTasks, HaveBegun, HasAdded, ended_in, out_of};
 
@@ -82,8 +82,22 @@ impl<S: Entrusted, T: Task<S>> Tasks<S, T> {
         requires { AreTasks T.rules self.now }
         ensures { result ≡ ended_in self.now.stages.items }
     {
-        let ended = self.stages.iter().filter(|stage| stage.is_ended());
-        ended.count() as u32
+        let _room = self.room;
+        self.count_ended() as u32
+    }
+
+    fn count_ended(&self) -> usize
+        ensures { result ≡ ended_in self.now.stages.items }
+    {
+        self.stages.iter().filter(|stage| stage.is_ended()).count()
+    }
+
+    /// Whether all that were added have ended.
+    pub(crate) fn have_ended(&self) -> bool
+        ensures all { IsTrue result → ended_in self.now.stages.items ≡ length self.now.stages.items }
+        ensures some { (result ≡ false) → ended_in self.now.stages.items ≢ length self.now.stages.items }
+    {
+        self.count_ended() == self.stages.len()
     }
 
     /// The trusts, and one output for each task, in the order of the numbers: `None` exactly for a task that has not

@@ -1,9 +1,8 @@
 //! Continuations that can be called.
-ghost use Rattle.std.specs.Prelude.{◌≡◌, ℕ, [], MatchOption};
-ghost use Rattle.tm_model.specs.State.{State};
-ghost use Rattle.tm_client.specs.Clients.{IsClient};
+ghost use Rattle.std.specs.Prelude.{◌≡◌, [], MatchOption};
 ghost use Rattle.tm_client.specs.Taking.{HasTaken};
 ghost use Rattle.tm_client.specs.declared.answers.Got.{Got};
+ghost use Rattle.tm_task.specs.Ours.{IsOne, StaysOne};
 
 use tm_client::{Client, Got};
 use tm_pair::{FitsBatches, PairTable};
@@ -27,9 +26,9 @@ pub trait Then<S: Entrusted>: Drop {
 pub fn run_ready<S: FitsBatches, C: Then<S>, P: PairTable<S>>(
     client: &mut Client<S, C, P>,
 ) -> Option<C::Out>
-    requires client { (openings : ℕ → State S S.Op S.Reply S.Task) × IsClient P.theory.client_view openings client.old.books }
+    requires client { IsOne P.theory.client_view client.old.books }
     ensures ready { MatchOption result ((client.old.books.arrived.items ≡ []) × (client.new ≡ client.old)) (λ out. (after : C) × (got : Got S S.Op S.Reply S.Task) × HasTaken after got client.old.books client.new.books × C.gives after got out) }
-    ensures client { (openings : ℕ → State S S.Op S.Reply S.Task) → IsClient P.theory.client_view openings client.old.books → IsClient P.theory.client_view openings client.new.books }
+    ensures client { StaysOne P.theory.client_view client.old.books client.new.books }
 {
     match client.next() {
         Some((after, got)) => Some(after.call(got)),

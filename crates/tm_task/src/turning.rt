@@ -1,9 +1,7 @@
 //! The turns of tasks.
-ghost use Rattle.std.specs.Prelude.{◌≡◌, ℕ, ◌<◌, ◌||◌, [], length};
-ghost use Rattle.tm_model.specs.State.{State};
-ghost use Rattle.tm_client.specs.Clients.{IsClient};
+ghost use Rattle.std.specs.Prelude.{◌≡◌, ◌<◌, ◌||◌, [], length};
 ghost use Rattle.tm_task.specs.Going.{AreInRange, HasGoneOnAt, HasResumed, HasStarted, HaveGoneOn, HaveMadeTurns, HaveMoved, IsFreshAt, IsWaitingAt, MayAsk, MayStart, ProgressOf, has_gone};
-ghost use Rattle.tm_task.specs.Ours.{AreTables, AreTheirs, HoldsOpen};
+ghost use Rattle.tm_task.specs.Ours.{AreOfClient, AreTheirs, HoldsOpen, IsOne, KeepsTables, StaysOne};
 ghost use Rattle.tm_task.specs.Progressing.{HaveTurned, busy_at, busy_below};
 ghost use Rattle.tm_task.specs.Stages.{AreTasks, stage_of};
 
@@ -90,17 +88,17 @@ impl<S: FitsBatches, T: Task<S>> Tasks<S, T> {
         requires tasks { AreTasks T.rules self.old }
         requires theirs { AreTheirs self.old.trusts.items self.old.stages.items client.old.books }
         requires holds { HoldsOpen client.old.books self.old.trusts.items }
-        requires client { (openings : ℕ → State S S.Op S.Reply S.Task) × AreTables P.theory openings client.old.books tables.old × IsClient P.theory.client_view openings client.old.books }
+        requires client { AreOfClient P.theory client.old.books tables.old }
         ensures turned { HaveTurned P.theory S.kind T.rules result self.old self.new client.old.books client.new.books tables.old tables.new }
         ensures tasks { AreTasks T.rules self.new }
         ensures theirs { AreTheirs self.new.trusts.items self.new.stages.items client.new.books }
         ensures holds { HoldsOpen client.new.books self.new.trusts.items }
-        ensures client { (openings : ℕ → State S S.Op S.Reply S.Task) → AreTables P.theory openings client.old.books tables.old → IsClient P.theory.client_view openings client.old.books → AreTables P.theory openings client.new.books tables.new × IsClient P.theory.client_view openings client.new.books }
+        ensures client { KeepsTables P.theory client.old.books client.new.books tables.old tables.new }
     {
         let resumed = self.take_answers(client);
         let started = self.go_on(client);
         let went = self.turn_all(client, tables);
-        let ended = self.ended() as usize == self.stages.len();
+        let ended = self.have_ended();
         let moved = is_either(resumed, started);
         progress_of(ended, is_either(moved, went))
     }
@@ -109,13 +107,13 @@ impl<S: FitsBatches, T: Task<S>> Tasks<S, T> {
     fn take_answers<P: PairTable<S>>(&mut self, client: &mut Client<S, u64, P>) -> bool
         requires tasks { AreTasks T.rules self.old }
         requires theirs { AreTheirs self.old.trusts.items self.old.stages.items client.old.books }
-        requires client { (openings : ℕ → State S S.Op S.Reply S.Task) × IsClient P.theory.client_view openings client.old.books }
+        requires client { IsOne P.theory.client_view client.old.books }
         ensures moved { HaveMoved P.theory S.kind T.rules result self.old self.new client.old.books client.new.books }
         ensures none { client.new.books.arrived.items ≡ [] }
-        ensures client { (openings : ℕ → State S S.Op S.Reply S.Task) → IsClient P.theory.client_view openings client.old.books → IsClient P.theory.client_view openings client.new.books }
+        ensures client { StaysOne P.theory.client_view client.old.books client.new.books }
     {
         let mut moved = false;
-        while let Some((number, got)) = client.next() {
+        'answers: while let Some((number, got)) = client.next() {
             self.resume(number, got);
             moved = true;
         }
@@ -168,9 +166,9 @@ impl<S: FitsBatches, T: Task<S>> Tasks<S, T> {
         requires number { number < length self.old.stages.items }
         requires in_range { AreInRange (length self.old.trusts.items) self.old.stages.items }
         requires holds { HoldsOpen client.old.books self.old.trusts.items }
-        requires client { (openings : ℕ → State S S.Op S.Reply S.Task) × IsClient P.theory.client_view openings client.old.books }
+        requires client { IsOne P.theory.client_view client.old.books }
         ensures may { MayAsk number self.old self.new client.old.books client.new.books }
-        ensures client { (openings : ℕ → State S S.Op S.Reply S.Task) → IsClient P.theory.client_view openings client.old.books → IsClient P.theory.client_view openings client.new.books }
+        ensures client { StaysOne P.theory.client_view client.old.books client.new.books }
     {
         if !self.stages[number].is_asking() {
             return;
@@ -201,9 +199,9 @@ impl<S: FitsBatches, T: Task<S>> Tasks<S, T> {
         requires number { number < length self.old.stages.items }
         requires in_range { AreInRange (length self.old.trusts.items) self.old.stages.items }
         requires holds { HoldsOpen client.old.books self.old.trusts.items }
-        requires client { (openings : ℕ → State S S.Op S.Reply S.Task) × IsClient P.theory.client_view openings client.old.books }
+        requires client { IsOne P.theory.client_view client.old.books }
         ensures at { HasGoneOnAt P.theory S.kind T.rules number result self.old self.new client.old.books client.new.books }
-        ensures client { (openings : ℕ → State S S.Op S.Reply S.Task) → IsClient P.theory.client_view openings client.old.books → IsClient P.theory.client_view openings client.new.books }
+        ensures client { StaysOne P.theory.client_view client.old.books client.new.books }
     {
         let fresh = self.start_fresh(number);
         self.ask(client, number);
@@ -214,9 +212,9 @@ impl<S: FitsBatches, T: Task<S>> Tasks<S, T> {
     fn go_on<P: PairTable<S>>(&mut self, client: &mut Client<S, u64, P>) -> bool
         requires in_range { AreInRange (length self.old.trusts.items) self.old.stages.items }
         requires holds { HoldsOpen client.old.books self.old.trusts.items }
-        requires client { (openings : ℕ → State S S.Op S.Reply S.Task) × IsClient P.theory.client_view openings client.old.books }
+        requires client { IsOne P.theory.client_view client.old.books }
         ensures all { HaveGoneOn P.theory S.kind T.rules (length self.old.stages.items) result self.old self.new client.old.books client.new.books }
-        ensures client { (openings : ℕ → State S S.Op S.Reply S.Task) → IsClient P.theory.client_view openings client.old.books → IsClient P.theory.client_view openings client.new.books }
+        ensures client { StaysOne P.theory.client_view client.old.books client.new.books }
     {
         let mut started = false;
         let count = self.stages.len();
@@ -235,9 +233,9 @@ impl<S: FitsBatches, T: Task<S>> Tasks<S, T> {
         trustee: usize,
     ) -> bool
         requires trustee { trustee < length tables.old }
-        requires client { (openings : ℕ → State S S.Op S.Reply S.Task) × AreTables P.theory openings client.old.books tables.old × IsClient P.theory.client_view openings client.old.books }
+        requires client { AreOfClient P.theory client.old.books tables.old }
         ensures turns { HaveMadeTurns P.theory S.kind T.rules (busy_at client.old.books trustee) result self.old self.new client.old.books client.new.books tables.old tables.new }
-        ensures client { (openings : ℕ → State S S.Op S.Reply S.Task) → AreTables P.theory openings client.old.books tables.old → IsClient P.theory.client_view openings client.old.books → AreTables P.theory openings client.new.books tables.new × IsClient P.theory.client_view openings client.new.books }
+        ensures client { KeepsTables P.theory client.old.books client.new.books tables.old tables.new }
     {
         if client.counting(trustee as u32) == 0 {
             return false;
@@ -253,9 +251,9 @@ impl<S: FitsBatches, T: Task<S>> Tasks<S, T> {
         client: &mut Client<S, u64, P>,
         tables: &mut [P],
     ) -> bool
-        requires client { (openings : ℕ → State S S.Op S.Reply S.Task) × AreTables P.theory openings client.old.books tables.old × IsClient P.theory.client_view openings client.old.books }
+        requires client { AreOfClient P.theory client.old.books tables.old }
         ensures turns { HaveMadeTurns P.theory S.kind T.rules (busy_below client.old.books (length tables.old)) result self.old self.new client.old.books client.new.books tables.old tables.new }
-        ensures client { (openings : ℕ → State S S.Op S.Reply S.Task) → AreTables P.theory openings client.old.books tables.old → IsClient P.theory.client_view openings client.old.books → AreTables P.theory openings client.new.books tables.new × IsClient P.theory.client_view openings client.new.books }
+        ensures client { KeepsTables P.theory client.old.books client.new.books tables.old tables.new }
     {
         let mut went = false;
         let count = tables.len();
