@@ -54,8 +54,8 @@ module _ {V O R K D : Type 0} where
   busy_some books t (suc n) some lt e =
       let (first, last) = empty_parts (busy_below books n) (busy_at books n) e in
       elim (cases_eq t n) [
-          inl same ↦ let one = busy_one books t some in
-              let clash : t ∷ [] ≡ [] = sym one ∙ ap (busy_at books) same ∙ last in absurd cc
+        | inl same ↦ let one = busy_one books t some in
+            let clash : t ∷ [] ≡ [] = sym one ∙ ap (busy_at books) same ∙ last in absurd cc
         | inr ne ↦ busy_some books t n some (omega (arith, lt, ne)) first
       ]
 

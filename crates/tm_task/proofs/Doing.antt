@@ -198,18 +198,22 @@ module _ {V T O R K U D Table Owner : Type 0} (theory : Theory V O R K Table D O
   ask_others : (n : ℕ) (old new : Tasks V T O R K U) (was now : Books V ℕ D O R K) → MayAsk n old new was now
       → ((k : ℕ) → k ≢ n → slice_get new.stages.items k ≡ slice_get old.stages.items k)
       × (now.arrived ≡ was.arrived) × ((t : ℕ) → counting_at was t ≤ counting_at now t)
-  ask_others n old new was now (inl h) =
-      (λ k ne. ap (λ l. slice_get l k) h.steps.now ∙ set_other old.stages.items n k (Waits h.i h.steps.task) ne, h.asked.rest.arrived,
-      λ t. asked_more h.trust.trustee _ n was now h.asked t)
-  ask_others n old new was now (inr h) =
-      (λ k ne. ap (λ l. slice_get l k) h.stages, ap (λ b. b.arrived) h.books,
-      λ t. subst (λ b. counting_at was t ≤ counting_at b t) (sym h.books) (omega arith))
+  ask_others n old new was now (inl h) = (
+    λ k ne. ap (λ l. slice_get l k) h.steps.now ∙ set_other old.stages.items n k (Waits h.i h.steps.task) ne,
+    h.asked.rest.arrived,
+    λ t. asked_more h.trust.trustee _ n was now h.asked t,
+  )
+  ask_others n old new was now (inr h) = (
+    λ k ne. ap (λ l. slice_get l k) h.stages,
+    ap (λ b. b.arrived) h.books,
+    λ t. subst (λ b. counting_at was t ≤ counting_at b t) (sym h.books) (omega arith),
+  )
 
   -- a task that is not fresh is settled once it had its turn to ask
   settled_left : (n : ℕ) (trusts : List Trust) (old : Tasks V T O R K U) (was now : Books V ℕ D O R K) (stage : Stage V T U O R K) → old.trusts.items ≡ trusts
       → slice_get old.stages.items n ≡ Some stage → ((task : T) → slice_get old.stages.items n ≡ Some (Fresh task) → ⊥) → now ≡ was
       → ((i : ℕ) (op : O) (task : T) → slice_get old.stages.items n ≡ Some (Asks i op task)
-        → (trust : Trust) × (slice_get old.trusts.items i ≡ Some trust) × (1 ≤ counting_at was trust.trustee))
+      → (trust : Trust) × (slice_get old.trusts.items i ≡ Some trust) × (1 ≤ counting_at was trust.trustee))
       → IsSettled now trusts stage
   settled_left n trusts old was now (Fresh task) same at fresh books blocked = absurd (fresh task at)
   settled_left n trusts old was now (Asks i op task) same at fresh books blocked =
@@ -268,7 +272,7 @@ module _ {V T O R K U D Table Owner : Type 0} (theory : Theory V O R K Table D O
         have = moved_then a b old mid new was between now f.have s.have;
         settled = λ k stage lt e.
             elim (cases_eq k n) [
-                inl same ↦ subst (λ ts. IsSettled now ts stage) trusts (s.settled stage (ap (slice_get new.stages.items) (sym same) ∙ e))
+              | inl same ↦ subst (λ ts. IsSettled now ts stage) trusts (s.settled stage (ap (slice_get new.stages.items) (sym same) ∙ e))
               | inr ne ↦
                   settled_more old.trusts.items between now stage s.more (f.settled k stage (omega (arith, lt, ne)) (sym (s.others k ne) ∙ e))
             ];

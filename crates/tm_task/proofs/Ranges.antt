@@ -29,14 +29,14 @@ module _ {V T U O R K : Type 0} (count : ℕ) where
       → AreInRange count (slice_set stages n stage)
   set_in_range stages n stage all one k s e =
       elim (set_cases stages n k stage s e) [
-          inl h ↦ subst (λ x. IsInRange count x) (sym h.1) one
+        | inl h ↦ subst (λ x. IsInRange count x) (sym h.1) one
         | inr h ↦ all k s h.1
       ]
 
   push_in_range : (stages : List (Stage V T U O R K)) (task : T) → AreInRange count stages → AreInRange count (stages ++ Fresh task ∷ [])
   push_in_range stages task all k s e =
       elim (push_cases stages k (Fresh task) s e) [
-          inl h ↦ all k s h
+        | inl h ↦ all k s h
         | inr h ↦ subst (λ x. IsInRange count x) (sym h) tt
       ]
 

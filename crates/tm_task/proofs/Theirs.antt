@@ -118,8 +118,8 @@ module _ {V O R K D : Type 0} where
       → (n t id : ℕ) → counting_for n t id new ≡ counting_for n t id old + one_for n t id n0 trustee name.id
   asked_counts trustee name op n0 old new h n t id =
       elim (cases_eq t trustee) [
-          inl e ↦ subst (λ u. counting_for n u id new ≡ counting_for n u id old + one_for n u id n0 trustee name.id) (sym e)
-              (asked_here trustee name op n0 old new h n id)
+        | inl e ↦ subst (λ u. counting_for n u id new ≡ counting_for n u id old + one_for n u id n0 trustee name.id) (sym e)
+            (asked_here trustee name op n0 old new h n id)
         | inr ne ↦ asked_elsewhere trustee name op n0 old new h n t id ne
       ]
 
@@ -158,7 +158,7 @@ module _ {V O R K D : Type 0} where
       let left : of_waiting n id becomes.afters.items ≡ of_waiting n id (drop (length answers) lane.afters.items) = ap (of_waiting n id) afters in
       let came = came_here n t0 id lane.afters.items answers in
       let arrived : of_arrived n t0 id new.arrived.items
-          ≡ of_arrived n t0 id old.arrived.items + of_arrived n t0 id (arrivals_of t0 lane.afters.items answers) =
+      ≡ of_arrived n t0 id old.arrived.items + of_arrived n t0 id (arrivals_of t0 lane.afters.items answers) =
       ap (of_arrived n t0 id) arrivals ∙ arrived_append n t0 id old.arrived.items (arrivals_of t0 lane.afters.items answers) in
       omega (arith, now, was, moved, left, came, arrived)
 
@@ -172,7 +172,7 @@ module _ {V O R K D : Type 0} where
       ap (λ (l : List (Lane V ℕ D O R K)). waits_for n id (slice_get l t)) lanes in
       let none = came_elsewhere n t t0 id lane.afters.items answers ne in
       let arrived : of_arrived n t id new.arrived.items
-          ≡ of_arrived n t id old.arrived.items + of_arrived n t id (arrivals_of t0 lane.afters.items answers) =
+      ≡ of_arrived n t id old.arrived.items + of_arrived n t id (arrivals_of t0 lane.afters.items answers) =
       ap (of_arrived n t id) arrivals ∙ arrived_append n t id old.arrived.items (arrivals_of t0 lane.afters.items answers) in
       omega (arith, still, moved, none, arrived)
 
@@ -188,8 +188,8 @@ module _ {V O R K D Table Owner : Type 0} (theory : Theory V O R K Table D Owner
   turned_counts t0 (GotSome m) table becomes old new h n t id =
       let got = h.tells in
       elim (cases_eq t t0) [
-          inl e ↦ subst (λ u. counting_for n u id new ≡ counting_for n u id old) (sym e)
-              (got_here t0 got.answers.answers.items h.lane h.becomes old new h.turns.of_lane h.turns.lanes got.afters got.arrived n id)
+        | inl e ↦ subst (λ u. counting_for n u id new ≡ counting_for n u id old) (sym e)
+            (got_here t0 got.answers.answers.items h.lane h.becomes old new h.turns.of_lane h.turns.lanes got.afters got.arrived n id)
         | inr ne ↦ got_elsewhere t0 got.answers.answers.items h.lane h.becomes old new h.turns.lanes got.arrived n t id ne
       ]
   turned_counts t0 Idle table becomes old new h n t id =
@@ -199,12 +199,12 @@ module _ {V O R K D Table Owner : Type 0} (theory : Theory V O R K Table D Owner
 same_object : (t id u named : ℕ) → 1 ≤ is_at t id u named → (u ≡ t) × (named ≡ id)
 same_object t id u named some =
     elim (cases_eq u t) [
-        inl e ↦ elim (cases_eq named id) [
-            inl f ↦ (e, f)
-          | inr ne ↦ let zero_is : cond (named == id) 1 0 ≡ 0 = ap (λ b. cond b 1 0) (ne_eqb named id ne) in
-              let zero : is_at t id u named ≡ 0 = cond_none (u == t) (cond (named == id) 1 0) zero_is in
-              absurd (omega (arith, some, zero))
-        ]
+      | inl e ↦ elim (cases_eq named id) [
+        | inl f ↦ (e, f)
+        | inr ne ↦ let zero_is : cond (named == id) 1 0 ≡ 0 = ap (λ b. cond b 1 0) (ne_eqb named id ne) in
+            let zero : is_at t id u named ≡ 0 = cond_none (u == t) (cond (named == id) 1 0) zero_is in
+            absurd (omega (arith, some, zero))
+      ]
       | inr ne ↦ let zero = at_other t u id named (λ e. ne (sym e)) in absurd (omega (arith, some, zero))
     ]
 
@@ -283,20 +283,20 @@ module _ {V T U O R K D Table Owner : Type 0} (theory : Theory V O R K Table D O
   theirs_asked n0 i op trust old new h of n t id =
       let now = ap (λ l. awaits trusts t id (slice_get l n)) h.now in
       elim (cases_eq n n0) [
-          inl e ↦
-              let at : slice_get (slice_set old n0 (Waits i h.task)) n ≡ Some (Waits i h.task) =
-              ap (λ k. slice_get (slice_set old n0 (Waits i h.task)) k) e ∙ set_here old n0 (Asks i op h.task) (Waits i h.task) h.was in
-              let is = ap (awaits trusts t id) at in
-              let there = ap (is_of t id) of in
-              let was : awaits trusts t id (slice_get old n) ≡ 0 = ap (λ k. awaits trusts t id (slice_get old k)) e ∙ ap (awaits trusts t id) h.was in
-              let own : one_for n t id n0 trust.trustee trust.name.id ≡ is_at t id trust.trustee trust.name.id =
-              ap (λ b. cond b (is_at t id trust.trustee trust.name.id) 0) (eq-eqb n0 n (sym e)) in
-              omega (arith, now, is, there, was, own)
+        | inl e ↦
+            let at : slice_get (slice_set old n0 (Waits i h.task)) n ≡ Some (Waits i h.task) =
+            ap (λ k. slice_get (slice_set old n0 (Waits i h.task)) k) e ∙ set_here old n0 (Asks i op h.task) (Waits i h.task) h.was in
+            let is = ap (awaits trusts t id) at in
+            let there = ap (is_of t id) of in
+            let was : awaits trusts t id (slice_get old n) ≡ 0 = ap (λ k. awaits trusts t id (slice_get old k)) e ∙ ap (awaits trusts t id) h.was in
+            let own : one_for n t id n0 trust.trustee trust.name.id ≡ is_at t id trust.trustee trust.name.id =
+            ap (λ b. cond b (is_at t id trust.trustee trust.name.id) 0) (eq-eqb n0 n (sym e)) in
+            omega (arith, now, is, there, was, own)
         | inr ne ↦
-              let at : awaits trusts t id (slice_get (slice_set old n0 (Waits i h.task)) n) ≡ awaits trusts t id (slice_get old n) =
-              ap (awaits trusts t id) (set_other old n0 n (Waits i h.task) ne) in
-              let none = one_other n t id n0 trust.trustee trust.name.id ne in
-              omega (arith, now, at, none)
+            let at : awaits trusts t id (slice_get (slice_set old n0 (Waits i h.task)) n) ≡ awaits trusts t id (slice_get old n) =
+            ap (awaits trusts t id) (set_other old n0 n (Waits i h.task) ne) in
+            let none = one_other n t id n0 trust.trustee trust.name.id ne in
+            omega (arith, now, at, none)
       ]
 
   theirs_deed : (d : Deed V T U O R K) (was now : World V T U O R K D Table) → Does theory kind rules trusts d was now
@@ -323,23 +323,23 @@ module _ {V T U O R K D Table Owner : Type 0} (theory : Theory V O R K Table D O
       let steps = h.steps in
       let now_is = ap (λ l. awaits trusts t id (slice_get l n)) steps.now in
       elim (cases_eq n n0) [
-          inl e ↦
-              let at : slice_get (slice_set was.stages n0 (stage_of (length trusts) move)) n ≡ Some (stage_of (length trusts) move) =
-              ap (λ k. slice_get (slice_set was.stages n0 (stage_of (length trusts) move)) k) e
-              ∙ set_here was.stages n0 (Waits steps.trust steps.task) (stage_of (length trusts) move) steps.was in
-              let is = ap (awaits trusts t id) at in
-              let none = moved_awaits trusts (length trusts) move t id in
-              let gone = resumed_here trusts n0 got was.stages was.books now.books theirs taken t id in
-              let same = ap (λ k. counting_for k t id now.books) e in
-              omega (arith, now_is, is, none, gone, same)
+        | inl e ↦
+            let at : slice_get (slice_set was.stages n0 (stage_of (length trusts) move)) n ≡ Some (stage_of (length trusts) move) =
+            ap (λ k. slice_get (slice_set was.stages n0 (stage_of (length trusts) move)) k) e
+            ∙ set_here was.stages n0 (Waits steps.trust steps.task) (stage_of (length trusts) move) steps.was in
+            let is = ap (awaits trusts t id) at in
+            let none = moved_awaits trusts (length trusts) move t id in
+            let gone = resumed_here trusts n0 got was.stages was.books now.books theirs taken t id in
+            let same = ap (λ k. counting_for k t id now.books) e in
+            omega (arith, now_is, is, none, gone, same)
         | inr ne ↦
-              let at : awaits trusts t id (slice_get (slice_set was.stages n0 (stage_of (length trusts) move)) n)
-                  ≡ awaits trusts t id (slice_get was.stages n) =
-              ap (awaits trusts t id) (set_other was.stages n0 n (stage_of (length trusts) move) ne) in
-              let less = taken_counts n0 got was.books now.books taken n t id in
-              let none = one_other n t id n0 taken.t taken.name.id ne in
-              let count = theirs n t id in
-              omega (arith, now_is, at, less, none, count)
+            let at : awaits trusts t id (slice_get (slice_set was.stages n0 (stage_of (length trusts) move)) n)
+            ≡ awaits trusts t id (slice_get was.stages n) =
+            ap (awaits trusts t id) (set_other was.stages n0 n (stage_of (length trusts) move) ne) in
+            let less = taken_counts n0 got was.books now.books taken n t id in
+            let none = one_other n t id n0 taken.t taken.name.id ne in
+            let count = theirs n t id in
+            omega (arith, now_is, at, less, none, count)
       ]
   theirs_deed (Turned t0 turn) was now h theirs n t id =
       let calls = h.calls in

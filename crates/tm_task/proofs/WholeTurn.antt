@@ -167,10 +167,10 @@ module _ {V T O R K U D Table Owner : Type 0} (theory : Theory V O R K Table D O
         let range = tasks_in_range rules mid are in
         let settled : (k : ℕ) (stage : Stage V T U O R K) → slice_get mid.stages.items k ≡ Some stage → IsSettled through mid.trusts.items stage =
         λ k stage e.
-            let many = on.have.many in
-            let lt = slice_get_within mid.stages.items k stage e in
-            subst (λ (ts : List Trust). IsSettled through ts stage) (sym (ap (λ v. v.items) on.have.rest.trusts))
-            (on.settled k stage (omega (arith, many, lt)) e) in
+        let many = on.have.many in
+        let lt = slice_get_within mid.stages.items k stage e in
+        subst (λ (ts : List Trust). IsSettled through ts stage) (sym (ap (λ v. v.items) on.have.rest.trusts))
+        (on.settled k stage (omega (arith, many, lt)) e) in
         let (t, some) =
         some_counts theory.client_view openings through mid.trusts.items mid.stages.items client (theirs_moved (resumed || started) old mid was through both theirs)
         empty range settled ne in
@@ -200,20 +200,20 @@ module _ {V T O R K U D Table Owner : Type 0} (theory : Theory V O R K Table D O
               runs_then theory kind rules old.trusts.items both.deeds made.deeds (world_of old was before)
               (world_of mid through before) (world_of new now after) (both.runs before)
               (subst (λ (ts : List Trust). Runs theory kind rules ts made.deeds (world_of mid through before)
-                (world_of new now after)) trusts made.runs);
+              (world_of new now after)) trusts made.runs);
           turns = ap (map (λ turn. turn.0)) turns ∙ made.turns ∙ sym busy;
           tells =
               told_so ended ((resumed || started) || went) progress (both.deeds ++ made.deeds) new.stages.items (busy_below now (length after)) is all_ended some_left
               (ap (λ x. x || went) both.moves ∙ ap (λ x. is_some (moves_in both.deeds) || x) made.went_is
-                ∙ sym (some_of_two (moves_in both.deeds) (went_in (turns_in made.deeds)))
-                ∙ ap (λ n. is_some (n + went_in (turns_in made.deeds))) (sym moves_are)
-                ∙ ap (λ l. is_some (moves_in (both.deeds ++ made.deeds) + went_in l)) (sym turns))
+              ∙ sym (some_of_two (moves_in both.deeds) (went_in (turns_in made.deeds)))
+              ∙ ap (λ n. is_some (n + went_in (turns_in made.deeds))) (sym moves_are)
+              ∙ ap (λ l. is_some (moves_in (both.deeds ++ made.deeds) + went_in l)) (sym turns))
               (λ still ne.
-                let (no_move, no_turn) = or_none (resumed || started) went still in
-                let (pending, left) = made.pending no_turn empty in
-                let here : ended_in mid.stages.items ≢ length mid.stages.items =
-                λ same. ne (ap (λ l. ended_in l) made.stages ∙ same ∙ sym (ap length made.stages)) in
-                (subst (λ l. l ≢ []) (sym busy) (busy_is here), turns ∙ pending ∙ ap all_pending (sym busy)));
+              let (no_move, no_turn) = or_none (resumed || started) went still in
+              let (pending, left) = made.pending no_turn empty in
+              let here : ended_in mid.stages.items ≢ length mid.stages.items =
+              λ same. ne (ap (λ l. ended_in l) made.stages ∙ same ∙ sym (ap length made.stages)) in
+              (subst (λ l. l ≢ []) (sym busy) (busy_is here), turns ∙ pending ∙ ap all_pending (sym busy)));
           trusts = made.rest.trusts ∙ both.rest.trusts;
           room = made.rest.room ∙ both.rest.room;
         }

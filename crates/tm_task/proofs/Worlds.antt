@@ -39,8 +39,8 @@ use Rattle.tm_task.proofs.Places.{all_map, some_at_set, same_at_set}
 gains_has : (h g : Hold) (at : ℕ) (old new : Holds) → Gains g at old new → HasHold old h → HasHold new h
 gains_has h g at old new gains (k, there) =
     elim (cases_eq k at) [
-        inl e ↦ let none : held_at old k ≡ None = ap (held_at old) e ∙ gains.free in
-            let clash : None ≡ Some h = sym none ∙ there in absurd cc
+      | inl e ↦ let none : held_at old k ≡ None = ap (held_at old) e ∙ gains.free in
+          let clash : None ≡ Some h = sym none ∙ there in absurd cc
       | inr ne ↦ (k, gains.updates.others k ne ∙ there)
     ]
 
@@ -134,8 +134,8 @@ module _ {V O R K D Table Owner : Type 0} (theory : Theory V O R K Table D Owner
     as_many = are.as_many ∙ sym (ap length lanes ∙ length-set old.lanes.items t0 becomes);
     mine = λ t table l at of.
         elim (set_cases old.lanes.items t0 t becomes l (subst (λ ls. slice_get ls t ≡ Some l) lanes of)) [
-            inl h ↦ subst (λ s. theory.HasClient table s) (sym (ap (λ (x : Lane V ℕ D O R K). x.side) h.1 ∙ side))
-                (are.mine t table lane at (ap (slice_get old.lanes.items) h.0 ∙ of_lane))
+          | inl h ↦ subst (λ s. theory.HasClient table s) (sym (ap (λ (x : Lane V ℕ D O R K). x.side) h.1 ∙ side))
+              (are.mine t table lane at (ap (slice_get old.lanes.items) h.0 ∙ of_lane))
           | inr h ↦ are.mine t table l at h.1
         ];
     opens = are.opens;
@@ -161,22 +161,22 @@ module _ {V O R K D Table Owner : Type 0} (theory : Theory V O R K Table D Owner
         as_many = many ∙ are.as_many ∙ sym (ap length h.turns.lanes ∙ length-set old.lanes.items t0 h.becomes);
         mine = λ t table l at of.
             elim (set_cases before t0 t now table (subst (λ ts. slice_get ts t ≡ Some table) tables at)) [
-                inl first ↦
+              | inl first ↦
                   elim (set_cases old.lanes.items t0 t h.becomes l (subst (λ ls. slice_get ls t ≡ Some l) h.turns.lanes of)) [
-                      inl second ↦
+                    | inl second ↦
                         let here : theory.HasClient now l.side = subst (λ (x : Lane V ℕ D O R K). theory.HasClient now x.side) (sym second.1) h.keeps.mine in
                         subst (λ x. theory.HasClient x l.side) (sym first.1) here
                     | inr second ↦ absurd (second.0 first.0)
                   ]
               | inr first ↦
                   elim (set_cases old.lanes.items t0 t h.becomes l (subst (λ ls. slice_get ls t ≡ Some l) h.turns.lanes of)) [
-                      inl second ↦ absurd (first.0 second.0)
+                    | inl second ↦ absurd (first.0 second.0)
                     | inr second ↦ are.mine t table l first.1 second.1
                   ]
             ];
         opens = λ t table at.
             elim (set_cases before t0 t now table (subst (λ ts. slice_get ts t ≡ Some table) tables at)) [
-                inl first ↦
+              | inl first ↦
                   are.opens t was (ap (slice_get before) first.0 ∙ of_table) ∙ sym h.keeps.opening ∙ ap theory.opening (sym first.1)
               | inr first ↦ are.opens t table first.1
             ];

@@ -191,11 +191,7 @@ impl<S: FitsBatches, T: Task<S>> Tasks<S, T> {
     }
 
     /// Starts a task that was not started, and asks what it is to ask. Whether it was started.
-    fn go_on_at<P: PairTable<S>>(
-        &mut self,
-        client: &mut Client<S, u64, P>,
-        number: usize,
-    ) -> bool
+    fn go_on_at<P: PairTable<S>>(&mut self, client: &mut Client<S, u64, P>, number: usize) -> bool
         requires number { number < length self.old.stages.items }
         requires in_range { AreInRange (length self.old.trusts.items) self.old.stages.items }
         requires holds { HoldsOpen client.old.books self.old.trusts.items }

@@ -27,9 +27,10 @@ loop-number-preserved g c =
     let more =
     gone_on_more g.P.PairTable.theory g.S.Entrusted.kind g.T.Task.rules c.loop-number.number c.loop-number.started c.go_on_at-fresh.result c.args.self.now
     c.loop-number.self c.go_on_at-fresh.new.self c.args.client.now.books c.loop-number.client.books c.go_on_at-fresh.new.client.books
-    c.loop-number.invariant.0 c.go_on_at-fresh.ensures.at in
-    (subst
-      (λ b. HaveGoneOn g.P.PairTable.theory g.S.Entrusted.kind g.T.Task.rules (c.loop-number.number + 1) b c.args.self.now c.go_on_at-fresh.new.self
-        c.args.client.now.books c.go_on_at-fresh.new.client.books)
-      (sym c.is_either-started.ensures) more,
-    λ openings is. c.go_on_at-fresh.ensures.client openings (c.loop-number.invariant.1 openings is))
+    c.loop-number.invariant.0 c.go_on_at-fresh.ensures.at in (
+      subst
+          (λ b. HaveGoneOn g.P.PairTable.theory g.S.Entrusted.kind g.T.Task.rules (c.loop-number.number + 1) b c.args.self.now c.go_on_at-fresh.new.self
+          c.args.client.now.books c.go_on_at-fresh.new.client.books)
+          (sym c.is_either-started.ensures) more,
+      λ openings is. c.go_on_at-fresh.ensures.client openings (c.loop-number.invariant.1 openings is),
+    )

@@ -34,12 +34,13 @@ answers-preserved g c =
     c.answers.client.books c.next.new.self.books c.resume.ensures c.in-Some.ensures.next in
     let more =
     moved_then g.P.PairTable.theory g.S.Entrusted.kind g.T.Task.rules c.answers.moved true c.args.self.now c.answers.self c.resume.new.self
-    c.args.client.now.books c.answers.client.books c.next.new.self.books c.answers.invariant.0 one in
-    (subst
-      (λ b. HaveMoved g.P.PairTable.theory g.S.Entrusted.kind g.T.Task.rules b c.args.self.now c.resume.new.self c.args.client.now.books
-        c.next.new.self.books)
-      (or_true c.answers.moved) more,
-    λ openings is. c.next.ensures.client openings (c.answers.invariant.1 openings is))
+    c.args.client.now.books c.answers.client.books c.next.new.self.books c.answers.invariant.0 one in (
+      subst
+          (λ b. HaveMoved g.P.PairTable.theory g.S.Entrusted.kind g.T.Task.rules b c.args.self.now c.resume.new.self c.args.client.now.books
+          c.next.new.self.books)
+          (or_true c.answers.moved) more,
+      λ openings is. c.next.ensures.client openings (c.answers.invariant.1 openings is),
+    )
 
 pub returns-clause-client : goal.returns-clause-client
 returns-clause-client g c = λ openings is. c.next.ensures.client openings (c.answers.invariant.1 openings is)

@@ -25,10 +25,12 @@ pub turn-turn-requires-clause-client : goal.turn-turn-requires-clause-client
 turn-turn-requires-clause-client g c =
     let (openings, are, is) = c.requires.client in
     let tables = c.args.tables.now in
-    let table = slice_index_or tables c.args.trustee c.index-tables-trustee.result in
-    (openings,
-    (may_turn g.P.PairTable.theory openings c.args.client.now.books tables c.args.trustee table are
-    (slice_get-get_or tables c.args.trustee c.index-tables-trustee.result c.requires.trustee)).1, is)
+    let table = slice_index_or tables c.args.trustee c.index-tables-trustee.result in (
+      openings,
+      (may_turn g.P.PairTable.theory openings c.args.client.now.books tables c.args.trustee table are
+          (slice_get-get_or tables c.args.trustee c.index-tables-trustee.result c.requires.trustee)).1,
+      is,
+    )
 
 pub returns-clause-turns : goal.returns-clause-turns
 returns-clause-turns g c =
@@ -50,7 +52,8 @@ returns-clause-client g c = λ openings are is.
     let books = c.args.client.now.books in
     let table = slice_index_or tables c.args.trustee c.index-tables-trustee.result in
     let of = slice_get-get_or tables c.args.trustee c.index-tables-trustee.result c.requires.trustee in
-    let may = may_turn g.P.PairTable.theory openings books tables c.args.trustee table are of in
-    (tables_turned g.P.PairTable.theory openings g.S.Entrusted.kind c.args.trustee c.turn-turn.result table c.turn-turn.new.table books
-      c.turn-turn.new.self.books tables _ of refl c.turn-turn.ensures.turned are,
-    c.turn-turn.ensures.client openings may.1 is)
+    let may = may_turn g.P.PairTable.theory openings books tables c.args.trustee table are of in (
+      tables_turned g.P.PairTable.theory openings g.S.Entrusted.kind c.args.trustee c.turn-turn.result table c.turn-turn.new.table books
+          c.turn-turn.new.self.books tables _ of refl c.turn-turn.ensures.turned are,
+      c.turn-turn.ensures.client openings may.1 is,
+    )
