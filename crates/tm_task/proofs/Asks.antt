@@ -1,5 +1,5 @@
 -- What counts at a trustee where a request was accepted or refused.
-use Rattle.std.proofs.Common.{◌≡◌, ℕ, zero, suc, ◌+◌, ◌≤◌, ◌<◌, ◌⊎◌, inl, inr, Bool, true, false, List, [], ◌∷◌, ◌++◌, length, refl, sym, ◌∙◌, ap, subst, arith}
+use Rattle.std.proofs.Common.{◌≡◌, ℕ, zero, suc, ◌≤◌, true, false, List, [], ◌∷◌, sym, ◌∙◌, subst, arith}
 use Rattle.std.specs.Prelude.{slice_get, slice_set, IsSomeAnd}
 use Rattle.std.specs.declared.option.Option.{Option}
 use Rattle.std.specs.declared.option.Option.TheVariants.{None, Some}
@@ -10,7 +10,7 @@ use Rattle.tm_client.specs.declared.answers.Why.TheVariants.{NotHeld, WindowFull
 use Rattle.tm_client.specs.declared.books.Books.{Books}
 use Rattle.tm_client.specs.declared.lane.Lane.{Lane}
 use Rattle.tm_client.specs.declared.trust.Trust.{Trust}
-use Rattle.tm_client.specs.Asking.{IsHeldBy, IsOpen, IsClosing, IsFull, ApplyWhy, HasAsked}
+use Rattle.tm_client.specs.Asking.{IsHeldBy, IsOpen, ApplyWhy, HasAsked}
 use Rattle.tm_task.specs.Progressing.{count_of, counting_at}
 
 -- a number of the element at a place, which does not fall by a write

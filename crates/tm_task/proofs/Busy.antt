@@ -1,12 +1,12 @@
 -- The trustees at which a request counts.
-use Rattle.std.proofs.Common.{◌≡◌, ◌≢◌, ℕ, zero, suc, ◌+◌, ◌*◌, ◌≤◌, ◌<◌, ◌⊎◌, inl, inr, Bool, true, false, cond, List, [], ◌∷◌, ◌++◌, length, filter, map, refl, sym, ◌∙◌, ap, subst, arith, eq-eqb, ne_eqb}
+use Rattle.std.proofs.Common.{◌≡◌, ◌≢◌, ℕ, zero, suc, ◌+◌, ◌≤◌, ◌<◌, inl, inr, Bool, false, cond, List, [], ◌∷◌, ◌++◌, length, filter, map, refl, sym, ◌∙◌, ap, arith, eq-eqb, ne_eqb}
 use Rattle.std.specs.Prelude.{◌==◌, slice_get, slice_set, IsSomeAnd}
 use Rattle.std.specs.declared.option.Option.{Option}
 use Rattle.std.specs.declared.option.Option.TheVariants.{None, Some}
 use Rattle.std.proofs.lemmas.Bool.{cases_eq}
 use Rattle.std.proofs.lemmas.List.{length-map}
 use Rattle.std.proofs.lemmas.List.Sums.{length-filter}
-use Rattle.std.proofs.lemmas.Option.{slice_get_within, slice_get_past}
+use Rattle.std.proofs.lemmas.Option.{slice_get_within}
 use Rattle.tm_seq.specs.Kind.{Kind}
 use Rattle.tm_model.specs.State.{State}
 use Rattle.tm_pair.specs.Theory.{Theory}
@@ -18,15 +18,14 @@ use Rattle.tm_client.specs.declared.lane.Lane.{Lane}
 use Rattle.tm_client.specs.declared.lane.Waiting.{Waiting}
 use Rattle.tm_client.specs.declared.trust.Trust.{Trust}
 use Rattle.tm_client.specs.Clients.{IsClient, come_of}
-use Rattle.tm_client.specs.Lanes.{unanswered, names_of, name_of, out_requests, asks_in, IsLane}
-use Rattle.tm_client.specs.Listing.{is_at}
+use Rattle.tm_client.specs.Lanes.{unanswered, names_of, name_of, out_requests, asks_in}
 use Rattle.tm_client.specs.Turns.{HasTurned}
 use Rattle.tm_client.proofs.Elements.{element_at}
 use Rattle.tm_client.proofs.Listed.{at_own}
 use Rattle.tm_task.specs.declared.stage.Stage.{Stage}
 use Rattle.tm_task.specs.declared.stage.Stage.TheVariants.{Fresh, Asks, Waits, Ended}
 use Rattle.tm_task.specs.Going.{IsInRange, AreInRange, IsSettled, has_gone}
-use Rattle.tm_task.specs.Ours.{of_waiting, of_arrived, waiting_at, counting_for, is_of, awaits, AreTheirs}
+use Rattle.tm_task.specs.Ours.{of_waiting, of_arrived, waiting_at, is_of, awaits, AreTheirs}
 use Rattle.tm_task.specs.Progressing.{count_of, counting_at, busy_at, busy_below}
 use Rattle.tm_task.specs.Stages.{is_ended, ended_in}
 use Rattle.tm_task.proofs.Places.{same_at_set, empty_parts}

@@ -1,7 +1,6 @@
 -- The parts of a turn of tasks, one after another.
-use Rattle.std.proofs.Common.{◌≡◌, ◌≢◌, ℕ, zero, suc, ◌+◌, ◌≤◌, ◌<◌, ◌⊎◌, inl, inr, Bool, true, false, cond, List, [], ◌∷◌, ◌++◌, length, length-set, append_assoc, map, refl, sym, ◌∙◌, ap, subst, arith}
-use Rattle.std.specs.Prelude.{◌||◌, nat_lt, vec_capacity, slice_get, slice_set}
-use Rattle.std.specs.declared.option.Option.{Option}
+use Rattle.std.proofs.Common.{◌≡◌, ◌≢◌, ℕ, ◌+◌, ◌≤◌, inl, inr, Bool, true, false, cond, List, [], ◌∷◌, ◌++◌, length, length-set, append_assoc, map, refl, sym, ◌∙◌, ap, subst, arith}
+use Rattle.std.specs.Prelude.{◌||◌, nat_lt, slice_get, slice_set}
 use Rattle.std.specs.declared.option.Option.TheVariants.{None, Some}
 use Rattle.std.proofs.lemmas.Bool.{cases_eq}
 use Rattle.tm_seq.specs.Kind.{Kind}
@@ -15,21 +14,20 @@ use Rattle.tm_client.specs.declared.trust.Trust.{Trust}
 use Rattle.tm_client.specs.Clients.{IsClient}
 use Rattle.tm_client.specs.Taking.{HasTaken}
 use Rattle.tm_client.specs.Turns.{HasTurned}
-use Rattle.tm_task.specs.declared.deed.Deed.{Deed}
-use Rattle.tm_task.specs.declared.deed.Deed.TheVariants.{Added, Started, Asked, Resumed, Turned}
+use Rattle.tm_task.specs.declared.deed.Deed.TheVariants.{Started, Asked, Resumed, Turned}
 use Rattle.tm_task.specs.declared.stage.Stage.{Stage}
 use Rattle.tm_task.specs.declared.stage.Stage.TheVariants.{Fresh, Asks, Waits, Ended}
 use Rattle.tm_task.specs.declared.task.Move.{Move}
 use Rattle.tm_task.specs.declared.task.Move.TheVariants.{Apply, Done}
 use Rattle.tm_task.specs.declared.tasks.Tasks.{Tasks}
-use Rattle.tm_task.specs.Going.{IsSettled, KeepsRest, IsFreshAt, HasStarted, HasResumed, MayStart, HasAskedAt, HasNotAsked, MayAsk, HaveMoved, HasGoneOnAt, HaveGoneOn, HaveMadeTurns, has_gone, is_some}
-use Rattle.tm_task.specs.Progressing.{moves_in, turns_in, went_in, counting_at, busy_at, busy_below, all_pending, world_of}
+use Rattle.tm_task.specs.Going.{IsSettled, KeepsRest, HasStarted, HasResumed, MayStart, HasAskedAt, HasNotAsked, MayAsk, HaveMoved, HasGoneOnAt, HaveGoneOn, HaveMadeTurns, has_gone, is_some}
+use Rattle.tm_task.specs.Progressing.{moves_in, turns_in, went_in, counting_at, busy_at, all_pending, world_of}
 use Rattle.tm_task.specs.Rules.{Rules}
-use Rattle.tm_task.specs.Runs.{World, Does, Runs}
-use Rattle.tm_task.specs.Stages.{is_fresh, stage_of, Goes, AreTasks}
+use Rattle.tm_task.specs.Runs.{World, Runs}
+use Rattle.tm_task.specs.Stages.{is_fresh, stage_of}
 use Rattle.tm_task.proofs.Asks.{asked_more}
-use Rattle.tm_task.proofs.Busy.{turned_counting, turned_pending, busy_one, same_busy}
-use Rattle.tm_task.proofs.Chains.{moves_append, turns_append, went_append, some_of_two, or_none, pending_append, firsts_append, goes_then, runs_then, runs_none, runs_one, runs_goes}
+use Rattle.tm_task.proofs.Busy.{turned_counting, turned_pending, busy_one}
+use Rattle.tm_task.proofs.Chains.{moves_append, turns_append, went_append, some_of_two, or_none, pending_append, firsts_append, runs_then, runs_none, runs_one}
 use Rattle.tm_task.proofs.Places.{set_here, set_other, read_some}
 
 append_nil : {X : Type 0} (xs : List X) → xs ++ [] ≡ xs

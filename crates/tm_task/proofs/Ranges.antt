@@ -1,13 +1,13 @@
 -- The trusts that tasks name where they ask or wait are there.
-use Rattle.std.proofs.Common.{◌≡◌, ℕ, ◌<◌, ◌⊎◌, inl, inr, Bool, true, false, cond, List, [], ◌∷◌, ◌++◌, length, refl, sym, ◌∙◌, ap, subst, arith}
-use Rattle.std.specs.Prelude.{nat_lt, slice_get, slice_set}
-use Rattle.std.specs.declared.option.Option.TheVariants.{None, Some}
+use Rattle.std.proofs.Common.{◌≡◌, ℕ, inl, inr, Bool, true, false, cond, List, [], ◌∷◌, ◌++◌, refl, sym, subst}
+use Rattle.std.specs.Prelude.{nat_lt, slice_set}
+use Rattle.std.specs.declared.option.Option.TheVariants.{None}
 use borrow.Author.Tests.{ltb-true}
 use Rattle.tm_client.proofs.Elements.{set_cases}
 use Rattle.tm_task.specs.declared.deed.Deed.{Deed}
 use Rattle.tm_task.specs.declared.deed.Deed.TheVariants.{Added, Started, Asked, Resumed, Turned}
 use Rattle.tm_task.specs.declared.stage.Stage.{Stage}
-use Rattle.tm_task.specs.declared.stage.Stage.TheVariants.{Fresh, Asks, Waits, Ended}
+use Rattle.tm_task.specs.declared.stage.Stage.TheVariants.{Fresh, Asks, Ended}
 use Rattle.tm_task.specs.declared.task.Move.{Move}
 use Rattle.tm_task.specs.declared.task.Move.TheVariants.{Apply, Done}
 use Rattle.tm_task.specs.Going.{IsInRange, AreInRange}

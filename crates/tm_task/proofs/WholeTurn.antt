@@ -1,6 +1,6 @@
 -- A whole turn of tasks, of its parts.
-use Rattle.std.proofs.Common.{◌≡◌, ◌≢◌, ℕ, zero, suc, ◌+◌, ◌≤◌, ◌<◌, ◌⊎◌, inl, inr, Bool, true, false, cond, List, [], ◌∷◌, ◌++◌, length, length-append, append_assoc, map, refl, sym, ◌∙◌, ap, subst, arith}
-use Rattle.std.specs.Prelude.{◌||◌, vec_capacity, slice_get, slice_set}
+use Rattle.std.proofs.Common.{◌≡◌, ◌≢◌, ℕ, zero, suc, ◌+◌, ◌≤◌, ◌<◌, Bool, true, false, List, [], ◌∷◌, ◌++◌, length, length-append, append_assoc, map, refl, sym, ◌∙◌, ap, subst, arith}
+use Rattle.std.specs.Prelude.{◌||◌, vec_capacity, slice_get}
 use Rattle.std.specs.declared.option.Option.TheVariants.{Some}
 use Rattle.std.proofs.lemmas.Option.{slice_get_within}
 use Rattle.tm_seq.specs.Kind.{Kind}
@@ -15,16 +15,15 @@ use Rattle.tm_task.specs.declared.stage.Stage.{Stage}
 use Rattle.tm_task.specs.declared.stage.Stage.TheVariants.{Fresh}
 use Rattle.tm_task.specs.declared.tasks.Tasks.{Tasks}
 use Rattle.tm_task.specs.declared.turning.Progress.{Progress}
-use Rattle.tm_task.specs.declared.turning.Progress.TheVariants.{Moved, Pending, AllEnded}
 use Rattle.tm_task.specs.Going.{AreInRange, IsSettled, KeepsRest, ProgressOf, HaveMoved, HaveGoneOn, HaveMadeTurns, is_some}
 use Rattle.tm_task.specs.Ours.{AreTables, AreTheirs, HoldsOpen}
 use Rattle.tm_task.specs.Progressing.{moves_in, turns_in, went_in, busy_below, all_pending, world_of, Tells, HaveTurned}
 use Rattle.tm_task.specs.Rules.{Rules}
-use Rattle.tm_task.specs.Runs.{World, Runs}
+use Rattle.tm_task.specs.Runs.{Runs}
 use Rattle.tm_task.specs.Stages.{ended_in, Goes, AreTasks}
 use Rattle.tm_task.proofs.Busy.{same_busy, busy_some, counting_within, some_counts}
 use Rattle.tm_task.proofs.Chains.{moves_append, turns_append, some_of_two, or_none, goes_then, runs_then, runs_goes}
-use Rattle.tm_task.proofs.Doing.{moved_then, rest_then}
+use Rattle.tm_task.proofs.Doing.{moved_then}
 use Rattle.tm_task.proofs.Ranges.{all_in_range, going_in_range}
 use Rattle.tm_task.proofs.Theirs.{theirs_then}
 use Rattle.tm_task.proofs.Worlds.{holds_then, tables_then}

@@ -1,8 +1,6 @@
 -- What a client holds, its tables and what counts at its trustees, whatever the tasks do.
-use Rattle.std.proofs.Common.{◌≡◌, ◌≢◌, ℕ, ◌+◌, ◌≤◌, ◌<◌, ◌⊎◌, inl, inr, false, List, [], ◌∷◌, ◌++◌, length, length-set, refl, sym, ◌∙◌, ap, subst, arith}
+use Rattle.std.proofs.Common.{◌≡◌, ℕ, ◌≤◌, inl, inr, false, List, length, length-set, sym, ◌∙◌, ap, subst, arith}
 use Rattle.std.specs.Prelude.{slice_get, slice_set, IsSomeAnd}
-use Rattle.std.specs.List.{AllByRecursion}
-use Rattle.std.specs.declared.option.Option.{Option}
 use Rattle.std.specs.declared.option.Option.TheVariants.{None, Some}
 use Rattle.std.proofs.lemmas.Bool.{cases_eq}
 use Rattle.std.proofs.lemmas.Option.{slice_get_within}
@@ -15,7 +13,6 @@ use Rattle.tm_model.specs.State.{State}
 use Rattle.tm_pair.specs.Theory.{Theory}
 use Rattle.tm_client.specs.declared.answers.Got.{Got}
 use Rattle.tm_client.specs.declared.answers.Turn.{Turn}
-use Rattle.tm_client.specs.declared.answers.Turn.TheVariants.{Sent, Pending, Got as GotSome, Idle}
 use Rattle.tm_client.specs.declared.books.Books.{Books}
 use Rattle.tm_client.specs.declared.holds.Hold.{Hold}
 use Rattle.tm_client.specs.declared.holds.Holds.{Holds}
@@ -29,11 +26,10 @@ use Rattle.tm_client.proofs.Elements.{element_at, set_cases}
 use Rattle.tm_task.specs.declared.deed.Deed.{Deed}
 use Rattle.tm_task.specs.declared.deed.Deed.TheVariants.{Added, Started, Asked, Resumed, Turned}
 use Rattle.tm_task.specs.Ours.{HoldsOpen, AreTables}
-use Rattle.tm_task.specs.Progressing.{count_of, counting_at}
 use Rattle.tm_task.specs.Rules.{Rules}
 use Rattle.tm_task.specs.Runs.{World, Does, Runs}
 use Rattle.tm_task.proofs.Chains.{runs_keep}
-use Rattle.tm_task.proofs.Places.{all_map, some_at_set, same_at_set}
+use Rattle.tm_task.proofs.Places.{all_map, some_at_set}
 
 -- a list that got one more has what it had
 gains_has : (h g : Hold) (at : ℕ) (old new : Holds) → Gains g at old new → HasHold old h → HasHold new h

@@ -11,9 +11,9 @@ use Rattle.tm_client.specs.declared.books.Books.{Books}
 use Rattle.tm_client.specs.declared.trust.Trust.{Trust}
 use Rattle.tm_client.specs.Asking.{HasAsked}
 use Rattle.tm_task.specs.declared.deed.Deed.{Deed}
-use Rattle.tm_task.specs.declared.deed.Deed.TheVariants.{Added, Started, Asked, Resumed, Turned}
+use Rattle.tm_task.specs.declared.deed.Deed.TheVariants.{Started, Asked, Resumed}
 use Rattle.tm_task.specs.declared.stage.Stage.{Stage}
-use Rattle.tm_task.specs.declared.stage.Stage.TheVariants.{Fresh, Asks, Waits, Ended}
+use Rattle.tm_task.specs.declared.stage.Stage.TheVariants.{Fresh, Asks, Waits}
 use Rattle.tm_task.specs.declared.task.Move.{Move}
 use Rattle.tm_task.specs.declared.tasks.Tasks.{Tasks}
 use Rattle.tm_task.specs.declared.turning.Progress.{Progress}

@@ -5,11 +5,11 @@ use Rattle.std.specs.declared.option.Option.TheVariants.{None, Some}
 use Rattle.tm_seq.specs.Kind.{Kind}
 use Rattle.tm_pair.specs.Theory.{Theory}
 use Rattle.tm_client.specs.declared.answers.Turn.{Turn}
-use Rattle.tm_client.specs.declared.answers.Turn.TheVariants.{Sent, Pending, Got, Idle}
+use Rattle.tm_client.specs.declared.answers.Turn.TheVariants.{Sent, Pending, Got}
 use Rattle.tm_client.specs.declared.books.Books.{Books}
 use Rattle.tm_client.specs.declared.lane.Lane.{Lane}
 use Rattle.tm_task.specs.declared.deed.Deed.{Deed}
-use Rattle.tm_task.specs.declared.deed.Deed.TheVariants.{Added, Started, Asked, Resumed, Turned}
+use Rattle.tm_task.specs.declared.deed.Deed.TheVariants.{Started, Resumed, Turned}
 use Rattle.tm_task.specs.declared.stage.Stage.{Stage}
 use Rattle.tm_task.specs.declared.tasks.Tasks.{Tasks}
 use Rattle.tm_task.specs.declared.turning.Progress.{Progress}

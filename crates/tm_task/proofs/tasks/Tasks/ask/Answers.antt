@@ -1,9 +1,8 @@
-use Rattle.std.proofs.Common.{rules, ◌≡◌, ◌<◌, ◌≤◌, length, inl, inr, refl, sym, ◌∙◌, ap}
+use Rattle.std.proofs.Common.{rules, ◌≡◌, ◌<◌, length, inl, inr, refl, sym, ◌∙◌, ap}
 use Rattle.std.specs.Prelude.{slice_get, slice_set}
 use Rattle.std.specs.declared.option.Option.TheVariants.{Some}
 use Rattle.tm_client.specs.Asking.{IsHeldBy, IsOpen}
 use Rattle.tm_task.specs.declared.stage.Stage.TheVariants.{Asks, Waits}
-use Rattle.tm_task.specs.Progressing.{counting_at}
 use Rattle.tm_task.proofs.Asks.{refused_counts}
 use Rattle.tm_task.proofs.Doing.{blocked_by}
 use Rattle.tm_task.proofs.Places.{all_at, read_at, set_back, set_twice}

@@ -1,4 +1,4 @@
-use Rattle.std.proofs.Common.{◌≡◌, ◌≤◌, length, map, vec_capacity}
+use Rattle.std.proofs.Common.{◌≡◌, ◌≤◌, map, vec_capacity}
 use Rattle.tm_task.specs.Stages.{out_of}
 use Rattle.tm_task.proofs.tasks.Tasks.close.Given as goal
 

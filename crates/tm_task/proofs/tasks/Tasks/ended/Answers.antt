@@ -1,4 +1,4 @@
-use Rattle.std.proofs.Common.{◌≤◌, length, arith}
+use Rattle.std.proofs.Common.{arith}
 use Rattle.std.proofs.lemmas.List.Sums.{count_by-le-length}
 use Rattle.tm_task.specs.Stages.{is_ended}
 use Rattle.tm_task.proofs.tasks.Tasks.ended.Goals as goal

@@ -1,5 +1,4 @@
-use Rattle.std.proofs.Common.{◌≡◌, sym, ◌∙◌, ap}
-use Rattle.tm_task.specs.Stages.{is_fresh}
+use Rattle.std.proofs.Common.{sym, ◌∙◌}
 use Rattle.tm_task.proofs.Doing.{fresh_there}
 use Rattle.tm_task.proofs.Places.{read_at}
 use Rattle.tm_task.proofs.tasks.Tasks.start_fresh.Goals as goal

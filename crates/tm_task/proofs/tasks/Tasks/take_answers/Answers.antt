@@ -1,4 +1,4 @@
-use Rattle.std.proofs.Common.{◌≡◌, Bool, true, false, refl, sym, subst}
+use Rattle.std.proofs.Common.{◌≡◌, Bool, true, false, refl, subst}
 use Rattle.std.specs.Prelude.{◌||◌}
 use Rattle.tm_task.specs.Going.{HaveMoved}
 use Rattle.tm_task.proofs.Doing.{moved_none, moved_then, resumed_moves}

@@ -1,6 +1,4 @@
-use Rattle.std.proofs.Common.{◌≡◌, ◌≤◌, slice_index_or, refl, arith}
-use Rattle.std.specs.Prelude.{slice_get}
-use Rattle.std.specs.declared.option.Option.TheVariants.{Some}
+use Rattle.std.proofs.Common.{◌≤◌, slice_index_or, refl, arith}
 use Rattle.std.proofs.lemmas.Option.{slice_get-get_or}
 use Rattle.tm_task.specs.Progressing.{counting_at}
 use Rattle.tm_task.proofs.Busy.{idle_at, counting_is}
