@@ -34,13 +34,13 @@ module _ {V O R K D : Type 0} where
   not_both None a b = absurd a
   not_both (Some lane) a b = let clash : true ≡ false = sym a ∙ b in absurd cc
 
-  full_counts : (o : Option (Lane V ℕ D O R K)) → IsSomeAnd o (λ lane. lane.counting ≡ WINDOW) → 1 ≤ count_of o
+  full_counts : (o : Option (Lane V ℕ D O R K)) → IsSomeAnd o (λ lane. lane.counting ≡ WINDOW) → WINDOW ≤ count_of o
   full_counts None a = absurd a
   full_counts (Some lane) a = omega (arith, a)
 
-  -- where an operation was refused of a client that holds the trust and did not close there, a request counts there
+  -- where an operation was refused of a client that holds the trust and did not close there, the window there is full
   pub refused_counts : (books : Books V ℕ D O R K) (trust : Trust) (why : Why) → IsHeldBy books trust × IsOpen books trust.trustee → ApplyWhy books trust why
-      → 1 ≤ counting_at books trust.trustee
+      → WINDOW ≤ counting_at books trust.trustee
   refused_counts books trust NotHeld may h = absurd (h may.0)
   refused_counts books trust Closed may h = absurd (not_both (slice_get books.lanes.items trust.trustee) h.1 may.1)
   refused_counts books trust WindowFull may h = full_counts (slice_get books.lanes.items trust.trustee) h.2

@@ -24,9 +24,9 @@ use Rattle.tm_client.proofs.Elements.{element_at}
 use Rattle.tm_client.proofs.Listed.{at_own}
 use Rattle.tm_task.specs.declared.stage.Stage.{Stage}
 use Rattle.tm_task.specs.declared.stage.Stage.TheVariants.{Fresh, Asks, Waits, Ended}
-use Rattle.tm_task.specs.Going.{IsInRange, AreInRange, IsSettled, has_gone}
+use Rattle.tm_task.specs.Going.{IsInRange, AreInRange, has_gone}
 use Rattle.tm_task.specs.Ours.{of_waiting, of_arrived, waiting_at, is_of, awaits, AreTheirs}
-use Rattle.tm_task.specs.Progressing.{count_of, counting_at, busy_at, busy_below}
+use Rattle.tm_task.specs.Progressing.{IsSettled, count_of, counting_at, busy_at, busy_below}
 use Rattle.tm_task.specs.Stages.{is_ended, ended_in}
 use Rattle.tm_task.proofs.Places.{same_at_set, empty_parts}
 
@@ -176,7 +176,7 @@ module _ {V T U O R K : Type 0} where
     one_counts : (n : ℕ) (stage : Stage V T U O R K) → slice_get stages n ≡ Some stage → is_ended stage ≡ false → IsInRange (length trusts) stage
         → IsSettled books trusts stage → (t : ℕ) × (1 ≤ counting_at books t)
     one_counts n (Fresh task) at left range settled = absurd settled
-    one_counts n (Asks i op task) at left range settled = (settled.0.trustee, settled.2)
+    one_counts n (Asks i op task) at left range settled = let full = settled.2 in (settled.0.trustee, omega (arith, full))
     one_counts n (Waits i task) at left range settled = waits_counts n i task at range
     one_counts n (Ended out) at left range settled = absurd cc
 

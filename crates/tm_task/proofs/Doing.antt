@@ -4,6 +4,7 @@ use Rattle.std.specs.Prelude.{◌||◌, nat_lt, slice_get, slice_set}
 use Rattle.std.specs.declared.option.Option.TheVariants.{None, Some}
 use Rattle.std.proofs.lemmas.Bool.{cases_eq}
 use Rattle.tm_seq.specs.Kind.{Kind}
+use Rattle.tm_batch.specs.declared.limits.TheConstants.{WINDOW}
 use Rattle.tm_model.specs.State.{State}
 use Rattle.tm_pair.specs.Theory.{Theory}
 use Rattle.tm_client.specs.declared.answers.Got.{Got}
@@ -20,8 +21,8 @@ use Rattle.tm_task.specs.declared.stage.Stage.TheVariants.{Fresh, Asks, Waits, E
 use Rattle.tm_task.specs.declared.task.Move.{Move}
 use Rattle.tm_task.specs.declared.task.Move.TheVariants.{Apply, Done}
 use Rattle.tm_task.specs.declared.tasks.Tasks.{Tasks}
-use Rattle.tm_task.specs.Going.{IsSettled, KeepsRest, HasStarted, HasResumed, MayStart, HasAskedAt, HasNotAsked, MayAsk, HaveMoved, HasGoneOnAt, HaveGoneOn, HaveMadeTurns, has_gone, is_some}
-use Rattle.tm_task.specs.Progressing.{moves_in, turns_in, went_in, counting_at, busy_at, all_pending, world_of}
+use Rattle.tm_task.specs.Going.{KeepsRest, HasStarted, HasResumed, MayStart, HasAskedAt, HasNotAsked, MayAsk, HaveMoved, HasGoneOnAt, HaveGoneOn, HaveMadeTurns, has_gone, is_some}
+use Rattle.tm_task.specs.Progressing.{IsSettled, moves_in, turns_in, went_in, counting_at, busy_at, all_pending, world_of}
 use Rattle.tm_task.specs.Rules.{Rules}
 use Rattle.tm_task.specs.Runs.{World, Runs}
 use Rattle.tm_task.specs.Stages.{is_fresh, stage_of}
@@ -58,11 +59,11 @@ module _ {V T U O R K : Type 0} where
   fresh_there (Ended out) e = absurd cc
 
 module _ {V T U O R K D : Type 0} where
-  -- a task that is to ask, at a trustee at which a request counts
+  -- a task that is to ask, at a trustee whose window is full
   pub blocked_by : (stages : List (Stage V T U O R K)) (trusts : List Trust) (n i0 : ℕ) (op0 : O) (task0 : T) (books : Books V ℕ D O R K) (trust : Trust)
-      → slice_get stages n ≡ Some (Asks i0 op0 task0) → slice_get trusts i0 ≡ Some trust → 1 ≤ counting_at books trust.trustee
+      → slice_get stages n ≡ Some (Asks i0 op0 task0) → slice_get trusts i0 ≡ Some trust → WINDOW ≤ counting_at books trust.trustee
       → (i : ℕ) (op : O) (task : T) → slice_get stages n ≡ Some (Asks i op task)
-      → (t : Trust) × (slice_get trusts i ≡ Some t) × (1 ≤ counting_at books t.trustee)
+      → (t : Trust) × (slice_get trusts i ≡ Some t) × (WINDOW ≤ counting_at books t.trustee)
   blocked_by stages trusts n i0 op0 task0 books trust at of some i op task e =
       let same : Asks i0 op0 task0 ≡ Asks i op task = read_some stages n (Asks i0 op0 task0) (Asks i op task) at e in
       let is : i0 ≡ i = cc in
@@ -211,12 +212,12 @@ module _ {V T O R K U D Table Owner : Type 0} (theory : Theory V O R K Table D O
   settled_left : (n : ℕ) (trusts : List Trust) (old : Tasks V T O R K U) (was now : Books V ℕ D O R K) (stage : Stage V T U O R K) → old.trusts.items ≡ trusts
       → slice_get old.stages.items n ≡ Some stage → ((task : T) → slice_get old.stages.items n ≡ Some (Fresh task) → ⊥) → now ≡ was
       → ((i : ℕ) (op : O) (task : T) → slice_get old.stages.items n ≡ Some (Asks i op task)
-      → (trust : Trust) × (slice_get old.trusts.items i ≡ Some trust) × (1 ≤ counting_at was trust.trustee))
+      → (trust : Trust) × (slice_get old.trusts.items i ≡ Some trust) × (WINDOW ≤ counting_at was trust.trustee))
       → IsSettled now trusts stage
   settled_left n trusts old was now (Fresh task) same at fresh books blocked = absurd (fresh task at)
   settled_left n trusts old was now (Asks i op task) same at fresh books blocked =
       let (trust, of, some) = blocked i op task at in
-      (trust, ap (λ ts. slice_get ts i) (sym same) ∙ of, subst (λ b. 1 ≤ counting_at b trust.trustee) (sym books) some)
+      (trust, ap (λ ts. slice_get ts i) (sym same) ∙ of, subst (λ b. WINDOW ≤ counting_at b trust.trustee) (sym books) some)
   settled_left n trusts old was now (Waits i task) same at fresh books blocked = tt
   settled_left n trusts old was now (Ended out) same at fresh books blocked = tt
 
@@ -247,7 +248,7 @@ module _ {V T O R K U D Table Owner : Type 0} (theory : Theory V O R K Table D O
       }
 
   -- a request that counts goes on counting
-  settled_more : (trusts : List Trust) (was now : Books V ℕ D O R K) (stage : Stage V T U O R K) → ((t : ℕ) → counting_at was t ≤ counting_at now t)
+  pub settled_more : (trusts : List Trust) (was now : Books V ℕ D O R K) (stage : Stage V T U O R K) → ((t : ℕ) → counting_at was t ≤ counting_at now t)
       → IsSettled was trusts stage → IsSettled now trusts stage
   settled_more trusts was now (Fresh task) more h = absurd h
   settled_more trusts was now (Asks i op task) more (trust, of, some) = (trust, of, let one = more trust.trustee in omega (arith, one, some))

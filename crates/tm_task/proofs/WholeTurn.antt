@@ -15,15 +15,15 @@ use Rattle.tm_task.specs.declared.stage.Stage.{Stage}
 use Rattle.tm_task.specs.declared.stage.Stage.TheVariants.{Fresh}
 use Rattle.tm_task.specs.declared.tasks.Tasks.{Tasks}
 use Rattle.tm_task.specs.declared.turning.Progress.{Progress}
-use Rattle.tm_task.specs.Going.{AreInRange, IsSettled, KeepsRest, ProgressOf, HaveMoved, HaveGoneOn, HaveMadeTurns, is_some}
+use Rattle.tm_task.specs.Going.{AreInRange, KeepsRest, ProgressOf, HaveMoved, HaveGoneOn, HaveMadeTurns, is_some}
 use Rattle.tm_task.specs.Ours.{AreTables, AreTheirs, HoldsOpen}
-use Rattle.tm_task.specs.Progressing.{moves_in, turns_in, went_in, busy_below, all_pending, world_of, Tells, HaveTurned}
+use Rattle.tm_task.specs.Progressing.{IsSettled, moves_in, turns_in, went_in, busy_below, all_pending, world_of, Tells, HaveTurned}
 use Rattle.tm_task.specs.Rules.{Rules}
 use Rattle.tm_task.specs.Runs.{Runs}
 use Rattle.tm_task.specs.Stages.{ended_in, Goes, AreTasks}
 use Rattle.tm_task.proofs.Busy.{same_busy, busy_some, counting_within, some_counts}
 use Rattle.tm_task.proofs.Chains.{moves_append, turns_append, some_of_two, or_none, goes_then, runs_then, runs_goes}
-use Rattle.tm_task.proofs.Doing.{moved_then}
+use Rattle.tm_task.proofs.Doing.{settled_more, moved_then}
 use Rattle.tm_task.proofs.Ranges.{all_in_range, going_in_range}
 use Rattle.tm_task.proofs.Theirs.{theirs_then}
 use Rattle.tm_task.proofs.Worlds.{holds_then, tables_then}
@@ -181,6 +181,15 @@ module _ {V T O R K U D Table Owner : Type 0} (theory : Theory V O R K Table D O
     all_deeds : List (Deed V T U O R K)
     all_deeds = both.deeds ++ made.deeds
 
+    settled_is : (n : ℕ) (stage : Stage V T U O R K) → slice_get new.stages.items n ≡ Some stage → IsSettled now old.trusts.items stage
+    settled_is n stage e =
+        let at : slice_get mid.stages.items n ≡ Some stage = ap (λ l. slice_get l n) (sym made.stages) ∙ e in
+        let many = on.have.many in
+        let lt = slice_get_within mid.stages.items n stage at in
+        let here : IsSettled through old.trusts.items stage =
+        subst (λ (ts : List Trust). IsSettled through ts stage) (ap (λ v. v.items) took.rest.trusts) (on.settled n stage (omega (arith, many, lt)) at) in
+        settled_more theory kind rules old.trusts.items through now stage (λ t. let same = made.counting t in omega (arith, same)) here
+
     pub have_turned : ProgressOf ended ((resumed || started) || went) progress → (ended ≡ true → ended_in new.stages.items ≡ length new.stages.items)
         → (ended ≡ false → ended_in new.stages.items ≢ length new.stages.items)
         → HaveTurned theory kind rules progress old new was now before after
@@ -201,6 +210,7 @@ module _ {V T O R K U D Table Owner : Type 0} (theory : Theory V O R K Table D O
               (subst (λ (ts : List Trust). Runs theory kind rules ts made.deeds (world_of mid through before)
               (world_of new now after)) trusts made.runs);
           turns = ap (map (λ turn. turn.0)) turns ∙ made.turns ∙ sym busy;
+          settled = settled_is;
           tells =
               told_so ended ((resumed || started) || went) progress (both.deeds ++ made.deeds) new.stages.items (busy_below now (length after)) is all_ended some_left
               (ap (λ x. x || went) both.moves ∙ ap (λ x. is_some (moves_in both.deeds) || x) made.went_is

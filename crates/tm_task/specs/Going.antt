@@ -2,6 +2,7 @@
 use Rattle.std.specs.Prelude.{◌≡◌, ◌≢◌, ℕ, zero, suc, ◌<◌, ◌≤◌, ◌⊎◌, Bool, true, false, List, [], ◌∷◌, ◌++◌, length, map, vec_capacity, slice_get}
 use Rattle.std.specs.declared.option.Option.TheVariants.{Some}
 use Rattle.tm_seq.specs.Kind.{Kind}
+use Rattle.tm_batch.specs.declared.limits.TheConstants.{WINDOW}
 use Rattle.tm_batch.specs.declared.message.Request.TheVariants.{Apply}
 use Rattle.tm_pair.specs.Theory.{Theory}
 use Rattle.tm_client.specs.declared.answers.Got.{Got}
@@ -18,7 +19,7 @@ use Rattle.tm_task.specs.declared.task.Move.{Move}
 use Rattle.tm_task.specs.declared.tasks.Tasks.{Tasks}
 use Rattle.tm_task.specs.declared.turning.Progress.{Progress}
 use Rattle.tm_task.specs.declared.turning.Progress.TheVariants.{Moved, Pending as StillPending, AllEnded}
-use Rattle.tm_task.specs.Progressing.{moves_in, turns_in, went_in, counting_at, all_pending, world_of}
+use Rattle.tm_task.specs.Progressing.{IsSettled, moves_in, turns_in, went_in, counting_at, all_pending, world_of}
 use Rattle.tm_task.specs.Rules.{Rules}
 use Rattle.tm_task.specs.Runs.{Runs}
 use Rattle.tm_task.specs.Stages.{IsStarted, IsAsked, IsResumed}
@@ -50,13 +51,6 @@ module _ {V T U O R K : Type 0} where
 
   abbrev pub AreInRange : ℕ → List (Stage V T U O R K) → Type 0
   AreInRange count stages = (n : ℕ) (stage : Stage V T U O R K) → slice_get stages n ≡ Some stage → IsInRange count stage
-
-  module _ {C D : Type 0} where
-    -- a task was started, and where it still is to ask, a request counts at that trustee
-    abbrev pub IsSettled : Books V C D O R K → List Trust → Stage V T U O R K → Type 0
-    IsSettled books trusts (Fresh task) = ⊥
-    IsSettled books trusts (Asks i op task) = (trust : Trust) × (slice_get trusts i ≡ Some trust) × (1 ≤ counting_at books trust.trustee)
-    IsSettled books trusts _ = Unit {0}
 
 module _ {V T O R K U : Type 0} where
   -- tasks keep their trusts and their room
@@ -104,13 +98,13 @@ module _ {V T O R K U : Type 0} where
       pub asked : HasAsked trust.trustee (Apply trust.name op) n 0 was now
       pub rest : KeepsRest old new
 
-    -- nothing was asked for task n: it is not to ask, or a request counts at the trustee that it is to ask
+    -- nothing was asked for task n: it is not to ask, or the window of the trustee is full that it is to ask
     pub record HasNotAsked (n : ℕ) (old new : Tasks V T O R K U) (was now : Books V ℕ D O R K) : Type 0 where
       pub told : new.told.items ≡ old.told.items
       pub stages : new.stages.items ≡ old.stages.items
       pub books : now ≡ was
       pub blocked : (i : ℕ) (op : O) (task : T) → slice_get old.stages.items n ≡ Some (Asks i op task)
-          → (trust : Trust) × (slice_get old.trusts.items i ≡ Some trust) × (1 ≤ counting_at was trust.trustee)
+          → (trust : Trust) × (slice_get old.trusts.items i ≡ Some trust) × (WINDOW ≤ counting_at was trust.trustee)
       pub rest : KeepsRest old new
 
     abbrev pub MayAsk : ℕ → Tasks V T O R K U → Tasks V T O R K U → Books V ℕ D O R K → Books V ℕ D O R K → Type 0
@@ -128,7 +122,7 @@ module _ {V T O R K U D Table Owner : Type 0} (theory : Theory V O R K Table D O
     pub many : length new.stages.items ≡ length old.stages.items
     pub rest : KeepsRest old new
 
-  -- task n was started if it was not, and what it is to ask was asked, unless a request counts there already
+  -- task n was started if it was not, and what it is to ask was asked, unless the window there is full
   pub record HasGoneOnAt (n : ℕ) (moved : Bool) (old new : Tasks V T O R K U) (was now : Books V ℕ D O R K) : Type 0 where
     pub have : HaveMoved moved old new was now
     pub settled : (stage : Stage V T U O R K) → slice_get new.stages.items n ≡ Some stage → IsSettled now old.trusts.items stage

@@ -3,14 +3,17 @@ use Rattle.std.specs.Prelude.{◌≡◌, ◌≢◌, ℕ, zero, suc, ◌+◌, ◌
 use Rattle.std.specs.declared.option.Option.{Option}
 use Rattle.std.specs.declared.option.Option.TheVariants.{None, Some}
 use Rattle.tm_seq.specs.Kind.{Kind}
+use Rattle.tm_batch.specs.declared.limits.TheConstants.{WINDOW}
 use Rattle.tm_pair.specs.Theory.{Theory}
 use Rattle.tm_client.specs.declared.answers.Turn.{Turn}
 use Rattle.tm_client.specs.declared.answers.Turn.TheVariants.{Sent, Pending, Got}
 use Rattle.tm_client.specs.declared.books.Books.{Books}
 use Rattle.tm_client.specs.declared.lane.Lane.{Lane}
+use Rattle.tm_client.specs.declared.trust.Trust.{Trust}
 use Rattle.tm_task.specs.declared.deed.Deed.{Deed}
 use Rattle.tm_task.specs.declared.deed.Deed.TheVariants.{Started, Resumed, Turned}
 use Rattle.tm_task.specs.declared.stage.Stage.{Stage}
+use Rattle.tm_task.specs.declared.stage.Stage.TheVariants.{Fresh, Asks}
 use Rattle.tm_task.specs.declared.tasks.Tasks.{Tasks}
 use Rattle.tm_task.specs.declared.turning.Progress.{Progress}
 use Rattle.tm_task.specs.declared.turning.Progress.TheVariants.{Moved, Pending as StillPending, AllEnded}
@@ -57,6 +60,13 @@ module _ {V C D O R K : Type 0} where
   busy_below books zero = []
   busy_below books (suc n) = busy_below books n ++ busy_at books n
 
+module _ {V T U O R K C D : Type 0} where
+  -- after a turn a task was started, and where it still is to ask, the window of that trustee is full
+  abbrev pub IsSettled : Books V C D O R K → List Trust → Stage V T U O R K → Type 0
+  IsSettled books trusts (Fresh task) = ⊥
+  IsSettled books trusts (Asks i op task) = (trust : Trust) × (slice_get trusts i ≡ Some trust) × (WINDOW ≤ counting_at books trust.trustee)
+  IsSettled books trusts _ = Unit {0}
+
 -- a turn at each trustee of a list, which was pending
 abbrev pub all_pending : List ℕ → List (ℕ × Turn)
 all_pending trustees = map (λ t. (t, Pending)) trustees
@@ -81,6 +91,8 @@ module _ {V T O R K U D Table Owner : Type 0} (theory : Theory V O R K Table D O
     pub runs : Runs theory kind rules old.trusts.items deeds (world_of old was before) (world_of new now after)
     -- one turn was made at each trustee where a request counts, in order, and no other
     pub turns : map (λ turn. turn.0) (turns_in deeds) ≡ busy_below now (length after)
+    -- each task was started, and what one asks was asked, unless the window is full
+    pub settled : (n : ℕ) (stage : Stage V T U O R K) → slice_get new.stages.items n ≡ Some stage → IsSettled now old.trusts.items stage
     pub tells : Tells progress deeds new.stages.items (busy_below now (length after))
     pub trusts : new.trusts ≡ old.trusts
     pub room : new.room ≡ old.room
