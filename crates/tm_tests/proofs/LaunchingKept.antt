@@ -13,7 +13,6 @@ use Rattle.tm_seq.specs.declared.counter.CounterTask.{CounterTask}
 use Rattle.tm_batch.specs.declared.message.AnswerBatch.{AnswerBatch}
 use Rattle.tm_batch.specs.declared.message.Request.{Request}
 use Rattle.tm_batch.specs.declared.message.Request.TheVariants.{Entrust, Apply, Launch, Grant, Release, Reclaim, Bye}
-use Rattle.tm_core.proofs.CallerLemmas.{all-append}
 use Rattle.tm_model.specs.Holds.{Names, gave, came, has_bye, launches_in}
 use Rattle.tm_model.specs.Orderly.{GrantsBelow, IsOrderly}
 use Rattle.tm_model.specs.State.{holds_at}
@@ -33,6 +32,10 @@ use Rattle.tm_tests.proofs.DrivenTurned.{turn_driven, turn_keeps_others}
 use Rattle.tm_trustee.specs.declared.trustee.Trustee.{Trustee}
 
 module _ {V O R T : Type 0} where
+  both_works : (xs ys : List (Request V O R T)) → AllByRecursion IsWork xs → AllByRecursion IsWork ys → AllByRecursion IsWork (xs ++ ys)
+  both_works [] ys all more = more
+  both_works (x ∷ xs) ys all more = (all.0, both_works xs ys all.1 more)
+
   no_bye : (qs : List (Request V O R T)) → AllByRecursion IsWork qs → has_bye qs ≡ false
   no_bye [] all = refl
   no_bye (Apply n op ∷ qs) all = no_bye qs all.1
@@ -79,7 +82,7 @@ module _ (view : ClientView Counter CounterOp CounterReply CounterTask) (count :
   held_all before after q id e names =
       let both = split_works before after q (subst (λ l. AllByRecursion IsWork l) e works) in
       let is : id ≡ 1 = names_one q id both.1 names in
-      let none = gives_none id (view.sent ++ before) (all-append IsWork view.sent before asked.works both.0) in
+      let none = gives_none id (view.sent ++ before) (both_works view.sent before asked.works both.0) in
       let one : holds_at (launching 1) 0 id ≡ 1 = ap (λ i. holds_at (launching 1) 0 i) is in
       omega (arith, none, one)
 
@@ -105,7 +108,7 @@ module _ {V O R T : Type 0} where
       → OnErr r (new ≡ old) → HasAsked count old → AllByRecursion IsWork b → count + length b ≤ more → HasAsked more new
   has_asked (Ok x) b room count more old new ok err asked works few = record {
     place = ok.place ∙ asked.place;
-    works = subst (λ l. AllByRecursion IsWork l) (sym ok.sent) (all-append IsWork old.sent b asked.works works);
+    works = subst (λ l. AllByRecursion IsWork l) (sym ok.sent) (both_works old.sent b asked.works works);
     size =
         let sent = ap (λ l. length l) ok.sent in let both = length-append old.sent b in let size = asked.size in
         omega (arith, sent, both, size, few);

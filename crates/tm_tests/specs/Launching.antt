@@ -51,10 +51,9 @@ module _ {V O R T : Type 0} where
 module _ {Table Client Owner : Type 0} (theory : Theory Counter CounterOp CounterReply CounterTask Table Client Owner) where
   -- the middle trustee and the greatest are ready for a turn, and the client sent so many works at most, its side being of the middle
   -- one's table
-  pub record IsPlayed (tables : List Table) (middle greatest : Trustee Counter Table CounterOp CounterReply CounterTask Client Owner) (client : Client)
-      (asked : ℕ) : Type 0 where
-    pub middle : IsDriven theory tables 1 middle
-    pub greatest : IsDriven theory tables 2 greatest
+  pub record IsPlayed (tables : List Table) (t u : Trustee Counter Table CounterOp CounterReply CounterTask Client Owner) (client : Client) (n : ℕ) : Type 0 where
+    pub middle : IsDriven theory tables 1 t
+    pub greatest : IsDriven theory tables 2 u
     pub seated : IsSomeAnd (slice_get tables 1) (λ table. (theory.opening table ≡ launching 1) × theory.HasClient table client)
-    pub asked : HasAsked asked (theory.client_view client)
-    pub few : asked ≤ 64
+    pub asked : HasAsked n (theory.client_view client)
+    pub few : n ≤ 64

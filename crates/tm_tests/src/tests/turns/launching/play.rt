@@ -97,7 +97,9 @@ impl<P: PairTable<Counter>> Play<P> {
             return false;
         }
         self.asked += works.len();
-        self.tables[1].publish(&mut self.client, batch(works)).is_ok()
+        self.tables[1]
+            .publish(&mut self.client, batch(works))
+            .is_ok()
     }
 
     /// The client looks for answers.
@@ -124,7 +126,8 @@ impl<P: PairTable<Counter>> Play<P> {
         requires { IsPlayed P.theory self.old.tables.items self.old.middle self.old.greatest self.old.client self.old.asked }
         ensures { IsPlayed P.theory self.new.tables.items self.new.middle self.new.greatest self.new.client self.new.asked }
     {
-        self.middle.serve_turn(self.tables.as_mut_slice(), &FreeGate)
+        self.middle
+            .serve_turn(self.tables.as_mut_slice(), &FreeGate)
     }
 
     /// A turn of the greatest one.
@@ -132,6 +135,7 @@ impl<P: PairTable<Counter>> Play<P> {
         requires { IsPlayed P.theory self.old.tables.items self.old.middle self.old.greatest self.old.client self.old.asked }
         ensures { IsPlayed P.theory self.new.tables.items self.new.middle self.new.greatest self.new.client self.new.asked }
     {
-        self.greatest.serve_turn(self.tables.as_mut_slice(), &FreeGate)
+        self.greatest
+            .serve_turn(self.tables.as_mut_slice(), &FreeGate)
     }
 }

@@ -40,7 +40,15 @@ fn is_end(completion: &Completion<Counter>, ended: &(u64, Said)) -> bool {
 /// Whether these answers came, in order, with these completions, and no gift.
 pub(super) fn shows(came: &AnswerBatch<Counter>, answers: &[Said], ended: &[(u64, Said)]) -> bool {
     let as_many = came.answers.len() == answers.len() && came.completions.len() == ended.len();
-    let same = came.answers.iter().zip(answers).all(|(a, s)| of_answer(a) == *s);
-    let same_ends = came.completions.iter().zip(ended).all(|(c, e)| is_end(c, e));
+    let same = came
+        .answers
+        .iter()
+        .zip(answers)
+        .all(|(a, s)| of_answer(a) == *s);
+    let same_ends = came
+        .completions
+        .iter()
+        .zip(ended)
+        .all(|(c, e)| is_end(c, e));
     as_many && same && same_ends && came.gifts.is_empty()
 }

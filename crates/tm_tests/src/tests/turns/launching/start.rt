@@ -1,6 +1,6 @@
 //! A runtime of one client and three trustees: the middle one has a counter of the client's, and holds one of the
 //! greatest.
-ghost use Rattle.std.specs.Prelude.{◌≡◌, [], ◌∷◌, IfOk};
+ghost use Rattle.std.specs.Prelude.{◌≡◌, ◌<◌, [], ◌∷◌, IfOk};
 ghost use Rattle.tm_seq.specs.Counting.{counter_kind};
 ghost use Rattle.tm_pair.specs.Theory.{IsNewTable};
 ghost use Rattle.tm_pair.specs.Views.{new_client, new_trustee};

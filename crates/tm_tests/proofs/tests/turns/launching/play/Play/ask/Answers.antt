@@ -1,4 +1,4 @@
-use Rattle.std.proofs.Common.{◌+◌, ◌-◌, ◌<◌, ◌≤◌, length, arith, sym, subst}
+use Rattle.std.proofs.Common.{◌+◌, ◌-◌, ◌<◌, ◌≤◌, length, arith, lit<, sym, subst}
 use Rattle.tm_model.specs.Orderly.{IsOrderly}
 use Rattle.tm_tests.proofs.LaunchingKept.{works_orderly, has_asked, has_client, opens_so, called, table_there}
 use Rattle.tm_tests.proofs.tests.turns.launching.play.Play.ask.Goals as goal
@@ -16,13 +16,18 @@ publish-requires g c =
     let view = P.theory.client_view play.client in
     let few = c.requires.few in
     let size = c.batch.ensures.size in
-    let opens = opens_so P.theory play.tables.items play.middle play.greatest play.client play.asked c.requires c.index_mut.result.now c.index_mut.ensures.value in
-    record {
-      mine = has_client P.theory play.tables.items play.middle play.greatest play.client play.asked c.requires c.index_mut.result.now c.index_mut.ensures.value;
-      orderly = λ free.
-          subst (λ o. IsOrderly o view.place view.sent view.got c.batch.result.requests.items) (sym opens)
-          (works_orderly view play.asked c.requires.asked c.batch.result.requests.items c.batch.ensures.works (omega (arith, few, size)));
-    }
+    let opens = opens_so P.theory play.tables.items play.middle play.greatest play.client play.asked c.requires c.index_mut.result.now c.index_mut.ensures.value in (
+      lit< tt,
+      (
+        lit< tt,
+        (
+          has_client P.theory play.tables.items play.middle play.greatest play.client play.asked c.requires c.index_mut.result.now c.index_mut.ensures.value,
+          λ free.
+              subst (λ o. IsOrderly o view.place view.sent view.got c.batch.result.requests.items) (sym opens)
+              (works_orderly view play.asked c.requires.asked c.batch.result.requests.items c.batch.ensures.works (omega (arith, few, size))),
+        ),
+      ),
+    )
 
 pub returns : goal.returns
 returns g c =

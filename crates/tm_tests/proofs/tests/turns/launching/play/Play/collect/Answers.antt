@@ -1,4 +1,4 @@
-use Rattle.std.proofs.Common.{◌<◌, length, arith}
+use Rattle.std.proofs.Common.{◌<◌, length, arith, lit<}
 use Rattle.tm_tests.proofs.LaunchingKept.{still_asked, has_client, called, table_there}
 use Rattle.tm_tests.proofs.tests.turns.launching.play.Play.collect.Goals as goal
 
@@ -11,9 +11,7 @@ index_mut-requires g c =
 pub collect-requires : goal.collect-requires
 collect-requires g c =
     let play = c.args.self.now in
-    record {
-      mine = has_client g.P.PairTable.theory play.tables.items play.middle play.greatest play.client play.asked c.requires c.index_mut.result.now c.index_mut.ensures.value;
-    }
+    (lit< tt, has_client g.P.PairTable.theory play.tables.items play.middle play.greatest play.client play.asked c.requires c.index_mut.result.now c.index_mut.ensures.value)
 
 pub returns : goal.returns
 returns g c =
