@@ -4,4 +4,5 @@ mod DrivenKept
 mod DrivenTurned
 mod LaunchingFirst
 mod LaunchingKept
+mod Pairs
 mod Sampling

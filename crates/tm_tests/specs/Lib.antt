@@ -1,3 +1,4 @@
 pub mod Driving
 pub mod Launching
 pub mod Sample
+pub mod Trying

@@ -1,6 +1,6 @@
 use Rattle.tm_seq.specs.Counting.{counter_kind}
 use Rattle.tm_toggle.specs.Shared.{IsClientOf, IsSame}
-use Rattle.tm_toggle.proofs.tests.ask.Given as goal
+use Rattle.tm_tests.proofs.tests.sharing.ask.Given as goal
 
 abbrev pub invariant-loop : goal.invariant-loop
 invariant-loop g l = record {

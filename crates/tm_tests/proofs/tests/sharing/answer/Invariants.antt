@@ -3,8 +3,8 @@ use Rattle.std.specs.declared.option.Option.TheVariants.{None}
 use Rattle.tm_seq.specs.Counting.{counter_kind}
 use Rattle.tm_pair.specs.Views.{hand_of}
 use Rattle.tm_toggle.specs.Shared.{opening_at, trustee_at, IsTrusteeOf, IsSame}
-use Rattle.tm_toggle.specs.Trying.{trying}
-use Rattle.tm_toggle.proofs.tests.answer.Given as goal
+use Rattle.tm_tests.specs.Trying.{trying}
+use Rattle.tm_tests.proofs.tests.sharing.answer.Given as goal
 
 abbrev pub invariant-loop : goal.invariant-loop
 invariant-loop g l = record {

@@ -1,6 +1,6 @@
 use Rattle.std.proofs.Common.{◌≡◌, ◌<◌, slice_index_or, length, refl, sym, subst, arith}
-use Rattle.tm_toggle.proofs.Pairs.{pair_of, first_side}
-use Rattle.tm_toggle.proofs.tests.two.Goals as goal
+use Rattle.tm_tests.proofs.Pairs.{pair_of, first_side}
+use Rattle.tm_tests.proofs.tests.sharing.two.Goals as goal
 
 pub returns-clause-one : goal.returns-clause-one
 returns-clause-one c =

@@ -7,9 +7,8 @@ ghost use Rattle.tm_model.specs.Opening.{opening_of};
 ghost use Rattle.tm_pair.specs.Views.{new_client, new_trustee, hand_of};
 ghost use Rattle.tm_pair.specs.Theory.{IsNewTable};
 ghost use Rattle.tm_toggle.specs.Shared.{opening_at, client_at, trustee_at, IsClientOf, IsTrusteeOf, IsSame, shared_theory};
-ghost use Rattle.tm_toggle.specs.Trying.{IsFirstClient, IsFirstOwner, trying};
+ghost use Rattle.tm_tests.specs.Trying.{IsFirstClient, IsFirstOwner, trying};
 
-use crate::{Shareable, SharedClient, SharedTable, SharedTrustee, handles_share_sides};
 use std::alloc::{AllocError, Global};
 use std::sync::Wait;
 use std::test::Fail;
@@ -17,6 +16,7 @@ use std::thread::{self, Threads};
 use tm_batch::{Config, First};
 use tm_pair::{Collected, Meet, PairTable, answer_nothing, ask_nothing};
 use tm_seq::{Counter, Entrusted};
+use tm_toggle::{Shareable, SharedClient, SharedTable, SharedTrustee, handles_share_sides};
 
 const TWO: Config = Config {
     clients: 2,

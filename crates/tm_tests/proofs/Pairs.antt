@@ -8,7 +8,7 @@ use Rattle.tm_seq.specs.declared.counter.CounterTask.{CounterTask}
 use Rattle.tm_model.specs.State.{State}
 use Rattle.tm_pair.specs.Theory.{IsNewTable}
 use Rattle.tm_toggle.specs.Shared.{IsSame, shared_theory}
-use Rattle.tm_toggle.specs.Trying.{IsFirstClient}
+use Rattle.tm_tests.specs.Trying.{IsFirstClient}
 use Rattle.tm_toggle.specs.declared.sides.SharedClient.{SharedClient}
 use Rattle.tm_toggle.specs.declared.sides.SharedTrustee.{SharedTrustee}
 use Rattle.tm_toggle.specs.declared.shared.SharedTable.{SharedTable}
