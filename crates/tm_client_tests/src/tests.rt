@@ -1,6 +1,8 @@
 //! Small runs whose answers the rules give.
 
+mod echo;
 mod endings;
+mod gates;
 mod gifts;
 mod play;
 mod start;

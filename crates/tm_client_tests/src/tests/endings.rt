@@ -1,5 +1,6 @@
 //! Empty batches and the `Bye`.
 ghost use Rattle.std.specs.Prelude.{◌<◌};
+ghost use Rattle.tm_seq.specs.Counting.{counter_kind};
 ghost use Rattle.tm_client_tests.specs.Playing.{IsPlaying};
 
 use super::gifts::seventeen;
@@ -8,21 +9,22 @@ use super::start::start;
 use super::trusts::round;
 use std::process::Abort;
 use std::test::Fail;
+use tm_base::FreeGate;
 use tm_client::{Got, Refused, Trust, Turn, Why};
 use tm_pair::PairTable;
 use tm_seq::{Counter, CounterOp};
 use tm_trustee::Served;
 
 /// A client says `Bye`, after which it has nothing to do.
-fn bye<P: PairTable<Counter>>(rt: &impl Abort, play: &mut Play<P>, who: usize)
-    requires plays { IsPlaying P.theory play.old.tables.items play.old.trustee play.old.clients.items }
+fn bye<P: PairTable<Counter>>(rt: &impl Abort, play: &mut Play<Counter, P>, who: usize)
+    requires plays { IsPlaying P.theory counter_kind play.old.tables.items play.old.trustee play.old.clients.items }
     requires who { who < 2 }
-    ensures { IsPlaying P.theory play.new.tables.items play.new.trustee play.new.clients.items }
+    ensures { IsPlaying P.theory counter_kind play.new.tables.items play.new.trustee play.new.clients.items }
 {
     play.close(who);
     assert_eq!(rt; play.turn(who), Turn::Sent(1));
     assert!(rt; !play.is_closed(who));
-    assert_eq!(rt; play.serve(), Served::Moved(1));
+    assert_eq!(rt; play.serve(&FreeGate), Served::Moved(1));
     assert_eq!(rt; play.turn(who), Turn::Got(1));
     assert!(rt; play.is_closed(who));
     assert!(rt; play.next(who).is_none());
@@ -30,9 +32,9 @@ fn bye<P: PairTable<Counter>>(rt: &impl Abort, play: &mut Play<P>, who: usize)
 }
 
 /// An empty batch goes once for each `fetch`.
-fn fetch<P: PairTable<Counter>>(rt: &impl Abort, play: &mut Play<P>)
-    requires { IsPlaying P.theory play.old.tables.items play.old.trustee play.old.clients.items }
-    ensures { IsPlaying P.theory play.new.tables.items play.new.trustee play.new.clients.items }
+fn fetch<P: PairTable<Counter>>(rt: &impl Abort, play: &mut Play<Counter, P>)
+    requires { IsPlaying P.theory counter_kind play.old.tables.items play.old.trustee play.old.clients.items }
+    ensures { IsPlaying P.theory counter_kind play.new.tables.items play.new.trustee play.new.clients.items }
 {
     assert_eq!(rt; play.turn(0), Turn::Idle);
     play.fetch(0);
@@ -41,12 +43,12 @@ fn fetch<P: PairTable<Counter>>(rt: &impl Abort, play: &mut Play<P>)
 }
 
 /// Nothing is accepted once the client closed.
-fn refused<P: PairTable<Counter>>(rt: &impl Abort, play: &mut Play<P>, trust: &Trust)
-    requires { IsPlaying P.theory play.old.tables.items play.old.trustee play.old.clients.items }
+fn refused<P: PairTable<Counter>>(rt: &impl Abort, play: &mut Play<Counter, P>, trust: &Trust)
+    requires { IsPlaying P.theory counter_kind play.old.tables.items play.old.trustee play.old.clients.items }
 {
     assert!(rt;
         matches!(
-            play.add(0, trust, 1, 3),
+            play.apply(0, trust, CounterOp::Add(1), 3),
             Err(Refused {
                 why: Why::Closed,
                 back: (CounterOp::Add(1), 3),
@@ -56,8 +58,8 @@ fn refused<P: PairTable<Counter>>(rt: &impl Abort, play: &mut Play<P>, trust: &T
 }
 
 /// The gifts that wait for a client that says `Bye` are given up, and a later grant to it is told.
-fn gone<P: PairTable<Counter>>(rt: &impl Abort, play: &mut Play<P>, trust: Trust)
-    requires { IsPlaying P.theory play.old.tables.items play.old.trustee play.old.clients.items }
+fn gone<P: PairTable<Counter>>(rt: &impl Abort, play: &mut Play<Counter, P>, trust: Trust)
+    requires { IsPlaying P.theory counter_kind play.old.tables.items play.old.trustee play.old.clients.items }
 {
     assert!(rt; play.grant(0, &trust, 1, 1).is_ok());
     round(rt, play, 0, 1);
@@ -74,7 +76,7 @@ fn gone<P: PairTable<Counter>>(rt: &impl Abort, play: &mut Play<P>, trust: Trust
 
 #[test]
 fn a_client_fetches_and_closes(rt: HostRuntime) -> Result<(), Fail> {
-    let (mut play, mut trusts) = start(rt.alloc(), 2)?;
+    let (mut play, mut trusts) = start(rt.alloc(), Counter { value: 0 }, 2)?;
     assert_eq!(rt; trusts.len(), 1);
     fetch(&rt, &mut play);
     bye(&rt, &mut play, 0);
@@ -84,7 +86,7 @@ fn a_client_fetches_and_closes(rt: HostRuntime) -> Result<(), Fail> {
 
 #[test]
 fn gifts_of_a_client_that_left_are_given_up(rt: HostRuntime) -> Result<(), Fail> {
-    let (mut play, mut trusts) = start(rt.alloc(), 2)?;
+    let (mut play, mut trusts) = start(rt.alloc(), Counter { value: 0 }, 2)?;
     assert_eq!(rt; trusts.len(), 1);
     let trust = trusts.remove(0);
     seventeen(&rt, &mut play, &trust);

@@ -1,22 +1,19 @@
-//! How the runtime of these tests begins: two clients, two trustees, and a counter on the greater of them.
+//! How the runtime of these tests begins: two clients, two trustees, and an object on the greater of them.
 ghost use Rattle.std.specs.Prelude.{◌≡◌, ◌<◌, ◌≤◌, [], ◌∷◌, IfOk};
 ghost use Rattle.std.specs.List.{AllByRecursion};
-ghost use Rattle.tm_seq.specs.Counting.{counter_kind};
 ghost use Rattle.tm_batch.specs.declared.limits.TheConstants.{MOST_TRUSTS};
-ghost use Rattle.tm_pair.specs.Theory.{IsNewTable};
 ghost use Rattle.tm_pair.specs.Views.{new_client, new_trustee};
 ghost use Rattle.tm_pair.specs.Plain.{client_at, trustee_at, plain_theory};
 ghost use Rattle.tm_client.specs.Begun.{HasBegun};
 ghost use Rattle.tm_client.specs.Clients.{IsClient};
 ghost use Rattle.tm_trustee.specs.Serving.{IsServing};
-ghost use Rattle.tm_client_tests.specs.Playing.{one_counter, small, opening, held_by, IsPlaying};
+ghost use Rattle.tm_client_tests.specs.Playing.{one_object, small, opening, held_by, IsPlaying};
 
 use super::play::Play;
 use std::alloc::{AllocError, Global};
 use tm_batch::{Config, First, Holders, Name};
 use tm_client::{Client, Trust};
-use tm_pair::{PlainClient, PlainTable, PlainTrustee};
-use tm_seq::Counter;
+use tm_pair::{FitsTable, PlainClient, PlainTable, PlainTrustee};
 use tm_trustee::Trustee;
 
 /// With room for two objects, three ids, and so many trusts of each client.
@@ -32,51 +29,35 @@ fn small(trusts: u32) -> Config
     }
 }
 
-/// The counter of 0 on the greater trustee, which client 0 holds.
-fn one_counter(alloc: Global) -> Result<Vec<First<Counter>>, AllocError>
-    ensures { IfOk result (λ first. first.items ≡ one_counter) }
+/// A value on the greater trustee, which client 0 holds.
+fn one_object<S: FitsTable>(alloc: Global, value: S) -> Result<Vec<First<S>>, AllocError>
+    ensures { IfOk result (λ first. first.items ≡ one_object value) }
 {
     let holders = Holders::new(vec![in alloc; 0]?);
     Ok(vec![in alloc;
         First {
             trustee: 1,
-            value: Counter { value: 0 },
+            value,
             holders,
         },
     ]?)
 }
 
-/// A trustee's table, with its sides.
-type Opened = (
-    PlainTable<Counter>,
-    Vec<PlainClient<Counter>>,
-    PlainTrustee<Counter>,
-);
-
-/// The table of a trustee.
-fn table(alloc: Global, number: u32, trusts: u32) -> Result<Opened, AllocError>
-    requires number { number < 2 }
-    requires some { 1 ≤ trusts }
-    requires most { trusts ≤ MOST_TRUSTS }
-    ensures { IfOk result (λ r. IsNewTable (plain_theory counter_kind) (opening trusts number) r.0 r.1.items r.2) }
-{
-    PlainTable::new(alloc, number, small(trusts), &one_counter(alloc)?)
-}
-
-/// The greater trustee.
-fn greater(
+/// The greater trustee, with what is placed on it.
+fn greater<S: FitsTable>(
     alloc: Global,
     trusts: u32,
-    side: PlainTrustee<Counter>,
-) -> Result<Trustee<Counter, PlainTable<Counter>>, AllocError>
+    first: Vec<First<S>>,
+    side: PlainTrustee<S>,
+) -> Result<Trustee<S, PlainTable<S>>, AllocError>
+    requires first { (v : S) × (first.items ≡ one_object v) }
     requires some { 1 ≤ trusts }
     requires most { trusts ≤ MOST_TRUSTS }
     requires side { trustee_at side ≡ new_trustee 3 }
-    ensures serving { IfOk result (λ t. IsServing (plain_theory counter_kind) counter_kind (opening trusts 1) t) }
+    ensures serving { IfOk result (λ t. (v : S) → first.items ≡ one_object v → IsServing (plain_theory S.kind) S.kind (opening v trusts 1) t) }
     ensures side { IfOk result (λ t. t.side ≡ side) }
     ensures above { IfOk result (λ t. t.above.items ≡ []) }
 {
-    let first = one_counter(alloc)?;
     match Trustee::new(
         alloc,
         1,
@@ -103,43 +84,46 @@ fn held_by(alloc: Global, number: u32) -> Result<Vec<(u32, Name)>, AllocError>
 }
 
 /// A client and its trusts.
-type Began = (Client<Counter, u32, PlainTable<Counter>>, Vec<Trust>);
+type Began<S> = (Client<S, u32, PlainTable<S>>, Vec<Trust>);
 
 /// A client with its sides at both trustees.
-fn client(
+fn client<S: FitsTable>(
     alloc: Global,
     number: u32,
     trusts: u32,
-    low: PlainClient<Counter>,
-    high: PlainClient<Counter>,
-) -> Result<Began, AllocError>
+    low: PlainClient<S>,
+    high: PlainClient<S>,
+) -> Result<Began<S>, AllocError>
+    requires value { S }
     requires number { number < 2 }
     requires some { 1 ≤ trusts }
     requires most { trusts ≤ MOST_TRUSTS }
     requires low { client_at low ≡ new_client number }
     requires high { client_at high ≡ new_client number }
     ensures begun { IfOk result (λ r. HasBegun number (small trusts) (low ∷ high ∷ []) (held_by number) r.0.books) }
-    ensures client { IfOk result (λ r. IsClient (λ side. client_at side) (opening trusts) r.0.books) }
+    ensures client { IfOk result (λ r. (v : S) → IsClient (λ side. client_at side) (opening v trusts) r.0.books) }
 {
     let sides = vec![in alloc; low, high]?;
     let held = held_by(alloc, number)?;
     Client::new(alloc, number, small(trusts), sides, held)
 }
 
-/// Two clients, each of which may have so many trusts, and what client 0 holds at first: the counter.
-pub(super) fn start(
+/// Two clients, each of which may have so many trusts, and what client 0 holds at first: this value.
+pub(super) fn start<S: FitsTable>(
     alloc: Global,
+    value: S,
     trusts: u32,
-) -> Result<(Play<PlainTable<Counter>>, Vec<Trust>), AllocError>
+) -> Result<(Play<S, PlainTable<S>>, Vec<Trust>), AllocError>
     requires some { 1 ≤ trusts }
     requires most { trusts ≤ MOST_TRUSTS }
-    ensures { IfOk result (λ r. IsPlaying (plain_theory counter_kind) r.0.tables.items r.0.trustee r.0.clients.items) }
+    ensures { IfOk result (λ r. IsPlaying (plain_theory S.kind) S.kind r.0.tables.items r.0.trustee r.0.clients.items) }
 {
-    let (low, mut at_low, _) = table(alloc, 0, trusts)?;
-    let (high, mut at_high, side) = table(alloc, 1, trusts)?;
+    let first = one_object(alloc, value)?;
+    let (low, mut at_low, _) = PlainTable::new(alloc, 0, small(trusts), &first)?;
+    let (high, mut at_high, side) = PlainTable::new(alloc, 1, small(trusts), &first)?;
     let (other, _) = client(alloc, 1, trusts, at_low.remove(1), at_high.remove(1))?;
     let (one, held) = client(alloc, 0, trusts, at_low.remove(0), at_high.remove(0))?;
-    let trustee = greater(alloc, trusts, side)?;
+    let trustee = greater(alloc, trusts, first, side)?;
     let play = Play {
         clients: vec![in alloc; one, other]?,
         tables: vec![in alloc; low, high]?,
