@@ -1,10 +1,11 @@
 -- How the runtime of the tests begins.
-use Rattle.std.proofs.Common.{◌≡◌, ℕ, zero, suc, ◌+◌, ◌<◌, ◌≤◌, ◌⊎◌, ◌==◌, Bool, true, false, inl, inr, List, [], ◌∷◌, length, map, filter, count_by, refl, sym, ◌∙◌, ap, subst, arith, ne_eqb}
+use Rattle.std.proofs.Common.{◌≡◌, ◌≢◌, ℕ, zero, suc, ◌+◌, ◌<◌, ◌≤◌, ◌⊎◌, ◌==◌, Bool, true, false, inl, inr, List, [], ◌∷◌, length, map, filter, count_by, refl, sym, ◌∙◌, ap, subst, arith, ne_eqb}
 use Rattle.std.specs.Prelude.{slice_get, IsSomeAnd}
 use Rattle.std.specs.List.{AllByRecursion, IsDistinct}
 use Rattle.std.specs.declared.option.Option.TheVariants.{Some}
 use Rattle.std.proofs.lemmas.List.Sums.{length-filter, count_by-le-length}
 use Rattle.tm_seq.specs.Kind.{Kind}
+use Rattle.tm_batch.specs.declared.config.Config.{Config}
 use Rattle.tm_batch.specs.declared.config.First.{First}
 use Rattle.tm_batch.specs.declared.limits.TheConstants.{MOST_TRUSTS}
 use Rattle.tm_batch.specs.declared.message.Name.{Name}
@@ -61,16 +62,18 @@ module _ {V O R T : Type 0} (v : V) where
   nothing_above trusts (suc (suc u)) = refl
 
   pub trustee_begins :
-      (trusts : ℕ) (first : List (First V)) (names : List (ℕ × Name)) (seats : ℕ) → 1 ≤ trusts → trusts ≤ MOST_TRUSTS → first ≡ one_object v → names ≡ []
-      → seats ≡ 0 → TrusteeMayBegin (opening {V = V} {O = O} {R = R} {T = T} v trusts 1) 1 (small trusts) (one_object v) first names seats
-  trustee_begins trusts first names seats some most placed none zero_seats = record {
-    opens = record { buildable = buildable v trusts some most; in_range = omega arith; placed = placed };
-    opening = refl;
-    nested = λ u.
-        subst (λ (l : List (ℕ × Name)). map (λ m. m.1.id) (filter (λ m. m.0 == u) l) ≡ ids_above (opening {V = V} {O = O} {R = R} {T = T} v trusts 1).setup u) (sym none)
-        (nothing_above trusts u);
-    sides = omega (arith, zero_seats);
-  }
+      (trusts : ℕ) (config : Config) (first : List (First V)) (names : List (ℕ × Name)) (seats : ℕ) → 1 ≤ trusts → trusts ≤ MOST_TRUSTS
+      → config ≡ small trusts → first ≡ one_object v → names ≡ [] → seats ≡ 0
+      → TrusteeMayBegin (opening {V = V} {O = O} {R = R} {T = T} v trusts 1) 1 config (one_object v) first names seats
+  trustee_begins trusts config first names seats some most is placed none zero_seats =
+      subst (λ (c : Config). TrusteeMayBegin (opening {V = V} {O = O} {R = R} {T = T} v trusts 1) 1 c (one_object v) first names seats) (sym is) (record {
+        opens = record { buildable = buildable v trusts some most; in_range = omega arith; placed = placed };
+        opening = refl;
+        nested = λ u.
+            subst (λ (l : List (ℕ × Name)). map (λ m. m.1.id) (filter (λ m. m.0 == u) l) ≡ ids_above (opening {V = V} {O = O} {R = R} {T = T} v trusts 1).setup u)
+            (sym none) (nothing_above trusts u);
+        sides = omega (arith, zero_seats);
+      })
 
   -- what a client holds at each trustee is what the opening gives it
   given_so : (trusts c t id : ℕ) → c < 2 → t < 2 → named_at t id (held_by c) ≡ holds_at (opening {V = V} {O = O} {R = R} {T = T} v trusts t) c id
@@ -82,17 +85,30 @@ module _ {V O R T : Type 0} (v : V) where
   given_so trusts c (suc (suc t)) id few lt = absurd (omega (arith, lt))
 
   pub client_begins :
-      (trusts c sides : ℕ) (held : List (ℕ × Name)) → 1 ≤ trusts → trusts ≤ MOST_TRUSTS → c < 2 → sides ≡ 2 → held ≡ held_by c
-      → MayBegin V O R T c (small trusts) (one_object v) sides held
-  client_begins trusts c sides held some most lt two its =
-      subst (λ (h : List (ℕ × Name)). MayBegin V O R T c (small trusts) (one_object v) sides h) (sym its) (record {
+      (trusts c : ℕ) (config : Config) (sides : ℕ) (held : List (ℕ × Name)) → 1 ≤ trusts → trusts ≤ MOST_TRUSTS → c < 2
+      → config ≡ small trusts → sides ≡ 2 → held ≡ held_by c → MayBegin V O R T c config (one_object v) sides held
+  client_begins trusts c config sides held some most lt is two its =
+      subst (λ (x : Config). MayBegin V O R T c x (one_object v) sides held) (sym is)
+      (subst (λ (h : List (ℕ × Name)). MayBegin V O R T c (small trusts) (one_object v) sides h) (sym its) (record {
         buildable = buildable v trusts some most;
         number_of = lt;
         sides_of = two;
         trustees = held_there c;
         given = λ t id below. given_so trusts c t id lt below;
         most = let few = few_held c in omega (arith, few, some);
-      })
+      }))
+
+-- a runtime may be built from what is equal to a config and a list from which one may
+pub buildable_so :
+    {V : Type 0} (v : V) (trusts : ℕ) (config : Config) (first : List (First V)) → 1 ≤ trusts → trusts ≤ MOST_TRUSTS → config ≡ small trusts
+    → first ≡ one_object v → IsBuildable config first
+buildable_so v trusts config first some most is placed =
+    subst (λ (x : Config). IsBuildable x first) (sym is)
+    (subst (λ l. IsBuildable (small trusts) l) (sym placed) (buildable v trusts some most))
+
+pub none_held : (c : ℕ) → c ≢ 0 → [] ≡ held_by c
+none_held zero some = absurd (some refl)
+none_held (suc c) some = refl
 
 module _ {V O R T Table Side Owner : Type 0} (theory : Theory V O R T Table Side Owner) (kind : Kind V O R T) (v : V) (trusts : ℕ) where
   each_opens :

@@ -1,7 +1,7 @@
 //! How the runtime of these tests begins: two clients, two trustees, and an object on the greater of them.
-ghost use Rattle.std.specs.Prelude.{◌≡◌, ◌<◌, ◌≤◌, [], ◌∷◌, IfOk};
-ghost use Rattle.std.specs.List.{AllByRecursion};
+ghost use Rattle.std.specs.Prelude.{◌≡◌, ℕ, ◌<◌, ◌≤◌, [], ◌∷◌, IfOk};
 ghost use Rattle.tm_batch.specs.declared.limits.TheConstants.{MOST_TRUSTS};
+ghost use Rattle.tm_pair.specs.Theory.{IsNewTable};
 ghost use Rattle.tm_pair.specs.Views.{new_client, new_trustee};
 ghost use Rattle.tm_pair.specs.Plain.{client_at, trustee_at, plain_theory};
 ghost use Rattle.tm_client.specs.Begun.{HasBegun};
@@ -41,6 +41,26 @@ fn one_object<S: FitsTable>(alloc: Global, value: S) -> Result<Vec<First<S>>, Al
             holders,
         },
     ]?)
+}
+
+/// A trustee's table, with its sides.
+type Opened<S> = (PlainTable<S>, Vec<PlainClient<S>>, PlainTrustee<S>);
+
+/// The table of a trustee.
+fn table<S: FitsTable>(
+    alloc: Global,
+    number: u32,
+    trusts: u32,
+    first: &Vec<First<S>>,
+) -> Result<Opened<S>, AllocError>
+    requires first { (v : S) × (first.now.items ≡ one_object v) }
+    requires number { number < 2 }
+    requires some { 1 ≤ trusts }
+    requires most { trusts ≤ MOST_TRUSTS }
+    ensures { IfOk result (λ r. (v : S) → first.now.items ≡ one_object v → IsNewTable (plain_theory S.kind) (opening v trusts number) r.0 r.1.items r.2) }
+{
+    let opened = PlainTable::new(alloc, number, small(trusts), first)?;
+    Ok(opened)
 }
 
 /// The greater trustee, with what is placed on it.
@@ -105,7 +125,8 @@ fn client<S: FitsTable>(
 {
     let sides = vec![in alloc; low, high]?;
     let held = held_by(alloc, number)?;
-    Client::new(alloc, number, small(trusts), sides, held)
+    let began = Client::new(alloc, number, small(trusts), sides, held)?;
+    Ok(began)
 }
 
 /// Two clients, each of which may have so many trusts, and what client 0 holds at first: this value.
@@ -119,8 +140,8 @@ pub(super) fn start<S: FitsTable>(
     ensures { IfOk result (λ r. IsPlaying (plain_theory S.kind) S.kind r.0.tables.items r.0.trustee r.0.clients.items) }
 {
     let first = one_object(alloc, value)?;
-    let (low, mut at_low, _) = PlainTable::new(alloc, 0, small(trusts), &first)?;
-    let (high, mut at_high, side) = PlainTable::new(alloc, 1, small(trusts), &first)?;
+    let (low, mut at_low, _) = table(alloc, 0, trusts, &first)?;
+    let (high, mut at_high, side) = table(alloc, 1, trusts, &first)?;
     let (other, _) = client(alloc, 1, trusts, at_low.remove(1), at_high.remove(1))?;
     let (one, held) = client(alloc, 0, trusts, at_low.remove(0), at_high.remove(0))?;
     let trustee = greater(alloc, trusts, first, side)?;
