@@ -1,6 +1,6 @@
 -- How the runtime of the tests begins.
 use Rattle.std.proofs.Common.{◌≡◌, ◌≢◌, ℕ, zero, suc, ◌+◌, ◌<◌, ◌≤◌, ◌⊎◌, ◌==◌, Bool, true, false, inl, inr, List, [], ◌∷◌, length, map, filter, count_by, refl, sym, ◌∙◌, ap, subst, arith, ne_eqb}
-use Rattle.std.specs.Prelude.{slice_get, IsSomeAnd}
+use Rattle.std.specs.Prelude.{slice_get, slice_index_or, IsSomeAnd}
 use Rattle.std.specs.List.{AllByRecursion, IsDistinct}
 use Rattle.std.specs.declared.option.Option.TheVariants.{Some}
 use Rattle.std.proofs.lemmas.List.Sums.{length-filter, count_by-le-length}
@@ -9,9 +9,9 @@ use Rattle.tm_batch.specs.declared.config.Config.{Config}
 use Rattle.tm_batch.specs.declared.config.First.{First}
 use Rattle.tm_batch.specs.declared.limits.TheConstants.{MOST_TRUSTS}
 use Rattle.tm_batch.specs.declared.message.Name.{Name}
-use Rattle.tm_model.specs.State.{State, holds_at, ids_above}
+use Rattle.tm_model.specs.State.{State, holds_at, ids_above, place_count}
 use Rattle.tm_model.specs.Opening.{is_named, IsBuildable, placed_on}
-use Rattle.tm_pair.specs.Theory.{Theory}
+use Rattle.tm_pair.specs.Theory.{Theory, IsNewClientOf, IsNewTable}
 use Rattle.tm_trustee.specs.Serving.{IsServing}
 use Rattle.tm_trustee.specs.Begun.{MayBegin as TrusteeMayBegin}
 use Rattle.tm_trustee.specs.Tables.{IsReady}
@@ -178,3 +178,10 @@ module _ {V O R T Table Side Owner : Type 0} (theory : Theory V O R T Table Side
     count = refl;
     each = each_one high one other first second;
   }
+
+module _ {V O R T Table Side Owner : Type 0} (theory : Theory V O R T Table Side Owner) where
+  -- a client's side of a new table, as it is read at its place
+  pub side_of :
+      (s : State V O R T) (table : Table) (sides : List Side) (owner : Owner) (c : ℕ) (side : Side) → IsNewTable theory s table sides owner
+      → c < place_count s.setup → side ≡ slice_index_or sides c side → IsNewClientOf theory table c side
+  side_of s table sides owner c side new lt read = new.clients_are c side (subst (λ n. c < n) (sym new.count) lt) read

@@ -1,11 +1,12 @@
-use Rattle.std.proofs.Common.{refl}
+use Rattle.std.proofs.Common.{arith, refl}
 use Rattle.tm_client_tests.proofs.Played.{is_there, lane_there, one, one_lane}
 use Rattle.tm_client_tests.proofs.tests.play.Play.fetch.Goals as goal
 
 pub index_mut-requires : goal.index_mut-requires
 index_mut-requires g c =
     let play = c.args.self.now in
-    is_there g.P.PairTable.theory g.S.Entrusted.kind play.tables.items play.trustee play.clients.items c.requires.plays c.args.who c.requires.who
+    let within = is_there g.P.PairTable.theory g.S.Entrusted.kind play.tables.items play.trustee play.clients.items c.requires.plays c.args.who c.requires.who in
+    omega (arith, within)
 
 pub fetch-requires : goal.fetch-requires
 fetch-requires g c =

@@ -1,10 +1,12 @@
+use Rattle.std.proofs.Common.{arith}
 use Rattle.tm_client_tests.proofs.Played.{by_result, is_there, one, one_lane, same_client}
 use Rattle.tm_client_tests.proofs.tests.play.Play.reclaim.Goals as goal
 
 pub index_mut-requires : goal.index_mut-requires
 index_mut-requires g c =
     let play = c.args.self.now in
-    is_there g.P.PairTable.theory g.S.Entrusted.kind play.tables.items play.trustee play.clients.items c.requires.plays c.args.who c.requires.who
+    let within = is_there g.P.PairTable.theory g.S.Entrusted.kind play.tables.items play.trustee play.clients.items c.requires.plays c.args.who c.requires.who in
+    omega (arith, within)
 
 pub reclaim-requires : goal.reclaim-requires
 reclaim-requires g c =

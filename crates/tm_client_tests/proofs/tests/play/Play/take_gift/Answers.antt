@@ -1,10 +1,12 @@
+use Rattle.std.proofs.Common.{arith}
 use Rattle.tm_client_tests.proofs.Played.{by_option, is_there, one, same_client, same_lanes}
 use Rattle.tm_client_tests.proofs.tests.play.Play.take_gift.Goals as goal
 
 pub index_mut-requires : goal.index_mut-requires
 index_mut-requires g c =
     let play = c.args.self.now in
-    is_there g.P.PairTable.theory g.S.Entrusted.kind play.tables.items play.trustee play.clients.items c.requires.plays c.args.who c.requires.who
+    let within = is_there g.P.PairTable.theory g.S.Entrusted.kind play.tables.items play.trustee play.clients.items c.requires.plays c.args.who c.requires.who in
+    omega (arith, within)
 
 pub take_gift-requires : goal.take_gift-requires
 take_gift-requires g c =

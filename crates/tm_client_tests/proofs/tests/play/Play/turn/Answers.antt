@@ -1,4 +1,4 @@
-use Rattle.std.proofs.Common.{sym, ◌∙◌, ap, subst}
+use Rattle.std.proofs.Common.{arith, sym, ◌∙◌, ap, subst}
 use Rattle.tm_client.specs.Asking.{At}
 use Rattle.tm_client.specs.Turns.{HasTurned}
 use Rattle.tm_client_tests.proofs.Played.{is_high, is_there, lane_there, one, table_there, turned}
@@ -7,12 +7,14 @@ use Rattle.tm_client_tests.proofs.tests.play.Play.turn.Goals as goal
 pub index_mut-requires : goal.index_mut-requires
 index_mut-requires g c =
     let play = c.args.self.now in
-    is_there g.P.PairTable.theory g.S.Entrusted.kind play.tables.items play.trustee play.clients.items c.requires.plays c.args.who c.requires.who
+    let within = is_there g.P.PairTable.theory g.S.Entrusted.kind play.tables.items play.trustee play.clients.items c.requires.plays c.args.who c.requires.who in
+    omega (arith, within)
 
-pub index_mut-2-requires : goal.index_mut-2-requires
-index_mut-2-requires g c =
+pub index_mut-requires-2 : goal.index_mut-requires-2
+index_mut-requires-2 g c =
     let play = c.args.self.now in
-    table_there g.P.PairTable.theory g.S.Entrusted.kind play.tables.items play.trustee play.clients.items c.requires.plays
+    let within = table_there g.P.PairTable.theory g.S.Entrusted.kind play.tables.items play.trustee play.clients.items c.requires.plays in
+    omega (arith, within)
 
 pub turn-requires-clause-trustee : goal.turn-requires-clause-trustee
 turn-requires-clause-trustee g c =
