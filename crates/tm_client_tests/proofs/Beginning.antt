@@ -54,13 +54,23 @@ held_there : (c : ℕ) → AllByRecursion (λ (h : ℕ × Name). h.0 < 2) (held_
 held_there zero = (omega arith, tt)
 held_there (suc c) = tt
 
-module _ {V O R T : Type 0} (v : V) where
+module _ {V : Type 0} (O R T : Type 0) (v : V) where
   -- trustee 1 has nothing above
   nothing_above : (trusts u : ℕ) → [] ≡ ids_above (opening {V = V} {O = O} {R = R} {T = T} v trusts 1).setup u
   nothing_above trusts zero = refl
   nothing_above trusts (suc zero) = refl
   nothing_above trusts (suc (suc u)) = refl
 
+  -- what a client holds at each trustee is what the opening gives it
+  given_so : (trusts c t id : ℕ) → c < 2 → t < 2 → named_at t id (held_by c) ≡ holds_at (opening {V = V} {O = O} {R = R} {T = T} v trusts t) c id
+  given_so trusts zero zero id few lt = refl
+  given_so trusts zero (suc zero) id few lt = elim (truth (1 == id)) [ inl same ↦ rw same refl | inr other ↦ rw other refl ]
+  given_so trusts (suc zero) zero id few lt = refl
+  given_so trusts (suc zero) (suc zero) id few lt = elim (truth (1 == id)) [ inl same ↦ rw same refl | inr other ↦ rw other refl ]
+  given_so trusts (suc (suc c)) t id few lt = absurd (omega (arith, few))
+  given_so trusts c (suc (suc t)) id few lt = absurd (omega (arith, lt))
+
+module _ {V O R T : Type 0} (v : V) where
   pub trustee_begins :
       (trusts : ℕ) (config : Config) (first : List (First V)) (names : List (ℕ × Name)) (seats : ℕ) → 1 ≤ trusts → trusts ≤ MOST_TRUSTS
       → config ≡ small trusts → first ≡ one_object v → names ≡ [] → seats ≡ 0
@@ -71,18 +81,9 @@ module _ {V O R T : Type 0} (v : V) where
         opening = refl;
         nested = λ u.
             subst (λ (l : List (ℕ × Name)). map (λ m. m.1.id) (filter (λ m. m.0 == u) l) ≡ ids_above (opening {V = V} {O = O} {R = R} {T = T} v trusts 1).setup u)
-            (sym none) (nothing_above trusts u);
+            (sym none) (nothing_above O R T v trusts u);
         sides = omega (arith, zero_seats);
       })
-
-  -- what a client holds at each trustee is what the opening gives it
-  given_so : (trusts c t id : ℕ) → c < 2 → t < 2 → named_at t id (held_by c) ≡ holds_at (opening {V = V} {O = O} {R = R} {T = T} v trusts t) c id
-  given_so trusts zero zero id few lt = refl
-  given_so trusts zero (suc zero) id few lt = elim (truth (1 == id)) [ inl yes ↦ rw yes refl | inr no ↦ rw no refl ]
-  given_so trusts (suc zero) zero id few lt = refl
-  given_so trusts (suc zero) (suc zero) id few lt = elim (truth (1 == id)) [ inl yes ↦ rw yes refl | inr no ↦ rw no refl ]
-  given_so trusts (suc (suc c)) t id few lt = absurd (omega (arith, few))
-  given_so trusts c (suc (suc t)) id few lt = absurd (omega (arith, lt))
 
   pub client_begins :
       (trusts c : ℕ) (config : Config) (sides : ℕ) (held : List (ℕ × Name)) → 1 ≤ trusts → trusts ≤ MOST_TRUSTS → c < 2
@@ -94,7 +95,7 @@ module _ {V O R T : Type 0} (v : V) where
         number_of = lt;
         sides_of = two;
         trustees = held_there c;
-        given = λ t id below. given_so trusts c t id lt below;
+        given = λ t id below. given_so O R T v trusts c t id lt below;
         most = let few = few_held c in omega (arith, few, some);
       }))
 
@@ -139,7 +140,7 @@ module _ {V O R T Table Side Owner : Type 0} (theory : Theory V O R T Table Side
       }
 
   -- a client at first
-  first_one :
+  pub first_one :
       (high : Table) (c : ℕ) (low_side high_side : Side) (books : Books V ℕ Side O R T) → books.number ≡ c
       → IsClient theory.client_view (opening v trusts) books → books.lanes.items ≡ map new_lane (low_side ∷ high_side ∷ []) → theory.HasClient high high_side
       → IsOne theory (opening v trusts) high c books

@@ -34,13 +34,13 @@ fn one_object<S: FitsTable>(alloc: Global, value: S) -> Result<Vec<First<S>>, Al
     ensures { IfOk result (λ first. first.items ≡ one_object value) }
 {
     let holders = Holders::new(vec![in alloc; 0]?);
-    Ok(vec![in alloc;
-        First {
-            trustee: 1,
-            value,
-            holders,
-        },
-    ]?)
+    let mut first = Vec::new(alloc);
+    first.push(First {
+        trustee: 1,
+        value,
+        holders,
+    })?;
+    Ok(first)
 }
 
 /// A trustee's table, with its sides.
@@ -145,9 +145,11 @@ pub(super) fn start<S: FitsTable>(
     let (other, _) = client(alloc, 1, trusts, at_low.remove(1), at_high.remove(1))?;
     let (one, held) = client(alloc, 0, trusts, at_low.remove(0), at_high.remove(0))?;
     let trustee = greater(alloc, trusts, first, side)?;
+    let clients = vec![in alloc; one, other]?;
+    let tables = vec![in alloc; low, high]?;
     let play = Play {
-        clients: vec![in alloc; one, other]?,
-        tables: vec![in alloc; low, high]?,
+        clients,
+        tables,
         trustee,
     };
     Ok((play, held))
