@@ -1,6 +1,6 @@
 -- How the runtime of the tests begins.
-use Rattle.std.proofs.Common.{◌≡◌, ◌≢◌, ℕ, zero, suc, ◌+◌, ◌<◌, ◌≤◌, ◌⊎◌, ◌==◌, Bool, true, false, inl, inr, List, [], ◌∷◌, length, map, filter, count_by, refl, sym, ◌∙◌, ap, subst, arith, ne_eqb}
-use Rattle.std.specs.Prelude.{slice_get, slice_index_or, IsSomeAnd}
+use Rattle.std.proofs.Common.{◌≡◌, ◌≢◌, ℕ, zero, suc, ◌+◌, ◌<◌, ◌≤◌, ◌⊎◌, ◌==◌, Bool, true, false, inl, inr, List, [], ◌∷◌, length, map, filter, refl, sym, ◌∙◌, ap, subst, arith}
+use Rattle.std.specs.Prelude.{slice_get, slice_index_or}
 use Rattle.std.specs.List.{AllByRecursion, IsDistinct}
 use Rattle.std.specs.declared.option.Option.TheVariants.{Some}
 use Rattle.std.proofs.lemmas.List.Sums.{length-filter, count_by-le-length}
@@ -10,7 +10,7 @@ use Rattle.tm_batch.specs.declared.config.First.{First}
 use Rattle.tm_batch.specs.declared.limits.TheConstants.{MOST_TRUSTS}
 use Rattle.tm_batch.specs.declared.message.Name.{Name}
 use Rattle.tm_model.specs.State.{State, holds_at, ids_above, place_count}
-use Rattle.tm_model.specs.Opening.{is_named, IsBuildable, placed_on}
+use Rattle.tm_model.specs.Opening.{is_named, IsBuildable}
 use Rattle.tm_pair.specs.Theory.{Theory, IsNewClientOf, IsNewTable}
 use Rattle.tm_trustee.specs.Serving.{IsServing}
 use Rattle.tm_trustee.specs.Begun.{MayBegin as TrusteeMayBegin}
@@ -18,7 +18,6 @@ use Rattle.tm_trustee.specs.Tables.{IsReady}
 use Rattle.tm_trustee.specs.declared.trustee.Trustee.{Trustee}
 use Rattle.tm_client.specs.declared.books.Books.{Books}
 use Rattle.tm_client.specs.declared.client.Client.{Client}
-use Rattle.tm_client.specs.declared.lane.Lane.{Lane}
 use Rattle.tm_client.specs.Begun.{named_at, new_lane, MayBegin}
 use Rattle.tm_client.specs.Clients.{IsClient}
 use Rattle.tm_client_tests.specs.Playing.{small, one_object, opening, held_by, IsOne, IsPlaying}

@@ -16,9 +16,7 @@ use Rattle.tm_trustee.specs.declared.trustee.Trustee.{Trustee}
 use Rattle.tm_trustee.proofs.Elements.{set_cases, set_here, set_other, same_element, there_too, there, read_at}
 use Rattle.tm_client.specs.declared.answers.Turn.{Turn}
 use Rattle.tm_client.specs.declared.lane.Lane.{Lane}
-use Rattle.tm_client.specs.declared.books.Books.{Books}
 use Rattle.tm_client.specs.declared.client.Client.{Client}
-use Rattle.tm_client.specs.Asking.{At}
 use Rattle.tm_client.specs.Clients.{IsClient}
 use Rattle.tm_client.specs.Turns.{HasTurned}
 use Rattle.tm_client_tests.specs.Playing.{IsOne, IsPlaying}

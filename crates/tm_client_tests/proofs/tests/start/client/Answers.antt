@@ -1,11 +1,11 @@
-use Rattle.std.proofs.Common.{◌≡◌, [], ◌∷◌, List, length, sym, ap, subst}
+use Rattle.std.proofs.Common.{◌≡◌, [], ◌∷◌, length, sym, ap, subst}
 use Rattle.std.specs.List.{AllByRecursion}
 use Rattle.tm_batch.specs.declared.config.Config.{Config}
 use Rattle.tm_model.specs.Opening.{opening_of}
 use Rattle.tm_pair.specs.Views.{new_client}
 use Rattle.tm_pair.specs.Plain.{client_at}
 use Rattle.tm_client.specs.Begun.{HasBegun}
-use Rattle.tm_client_tests.specs.Playing.{held_by, one_object, opening, small}
+use Rattle.tm_client_tests.specs.Playing.{one_object, opening, small}
 use Rattle.tm_client_tests.proofs.Beginning.{client_begins}
 use Rattle.tm_client_tests.proofs.tests.start.client.Goals as goal
 

@@ -1,4 +1,4 @@
-use Rattle.std.proofs.Common.{◌≡◌, ◌<◌, [], ◌∷◌, List, sym, ◌∙◌, subst, arith, lit<}
+use Rattle.std.proofs.Common.{[], ◌∷◌, sym, ◌∙◌, subst, arith, lit<}
 use Rattle.tm_pair.specs.Plain.{plain_theory, IsTrusteeOf}
 use Rattle.tm_client_tests.specs.Playing.{opening, IsPlaying}
 use Rattle.tm_client_tests.proofs.Beginning.{first_one, first_plays, side_of}

@@ -3,7 +3,7 @@ use Rattle.tm_batch.specs.declared.config.Config.{Config}
 use Rattle.tm_model.specs.Opening.{opening_of}
 use Rattle.tm_pair.specs.Plain.{plain_theory}
 use Rattle.tm_pair.specs.Theory.{IsNewTable}
-use Rattle.tm_client_tests.specs.Playing.{one_object, small}
+use Rattle.tm_client_tests.specs.Playing.{small}
 use Rattle.tm_client_tests.proofs.Beginning.{buildable_so}
 use Rattle.tm_client_tests.proofs.tests.start.table.Goals as goal
 
