@@ -82,7 +82,7 @@ sleep 0.5 # (the rest of the log)
 for process in "${!spent[@]}"; do
     echo "${part[$process]} ${spent[$process]}"
 done > "$room/spent"
-grep -E '^([a-z0-9_]+):' crates.txt | cut -d: -f1 | while read -r crate; do
+grep -oE '^[a-z0-9_]+' crates.txt | while read -r crate; do
     lines=$(git ls-files "crates/$crate/src" "crates/$crate/specs" "crates/$crate/proofs" | tr '\n' '\0' | xargs -0 -r cat | wc -l)
     edits=$(git ls-files "crates/$crate/must-fail/*.edit" | wc -l)
     tests=$(git grep -l '#\[test\]' -- "crates/$crate/src" | wc -l)

@@ -10,8 +10,6 @@ mod pieces;
 mod plain;
 mod progress;
 mod reader;
-#[cfg(test)]
-mod tests;
 
 pub use held::{Filling, Front};
 pub use laws::{each_text_reads, one_reading, one_spelling, reads_extend};

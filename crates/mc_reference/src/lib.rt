@@ -8,6 +8,3 @@ mod rows;
 mod run;
 
 pub use plain::Plain;
-
-#[cfg(test)]
-mod tests;

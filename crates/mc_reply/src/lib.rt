@@ -7,8 +7,6 @@ mod rendering;
 mod said;
 mod saying;
 mod size;
-#[cfg(test)]
-mod tests;
 
 pub use mc_model::{Said, Shown, ShownItem, ShownItems};
 pub use rendering::render;

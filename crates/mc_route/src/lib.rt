@@ -23,6 +23,3 @@ pub use laws::{
 pub use parts::{ShardPart, ShardParts};
 pub use places::{Store, index_of, store_first, trustee_of};
 pub use planning::{Ask, Planned, plan};
-
-#[cfg(test)]
-mod tests;

@@ -15,6 +15,3 @@ mod slot;
 mod trustee;
 
 pub use session::{FULL, Session};
-
-#[cfg(test)]
-mod tests;

@@ -13,6 +13,3 @@ mod state;
 pub use mc_model::{How, ShardReply};
 pub use op::{NoTask, ShardOp};
 pub use shard::Shard;
-
-#[cfg(test)]
-mod tests;

@@ -19,7 +19,7 @@ pub(crate) const BUFFER: usize = 65_536;
 
 /// How an input ended.
 #[derive(Clone, Copy, Debug, PartialEq, Eq)]
-pub(crate) enum End {
+pub enum End {
     /// Between two messages, or at a `quit`.
     Between,
     /// Inside a message.
@@ -59,8 +59,10 @@ fn end_of(reader: &Reader) -> End
 
 /// Answers an input, at most its first `most` bytes, to its end or to a `quit`.
 ///
-/// Before each read all that came whole is answered and written. An `Err` leaves a front of the output written.
-pub(crate) fn answer_all<A: Source, B: Sink, W: Clock, G: Gate>(
+/// Before each read all that came whole is answered and written. After `Stop::ReadFault` all that came whole before is
+/// written, and after another `Err` a front of the output. [`top_in_turns`](crate::top_in_turns) calls it with
+/// [`MOST_INPUT`](crate::MOST_INPUT), and says what it keeps in memory.
+pub fn answer_all<A: Source, B: Sink, W: Clock, G: Gate>(
     alloc: Global,
     most: u64,
     input: &mut A,

@@ -13,9 +13,8 @@ mod stop;
 mod top;
 mod words;
 
+pub use connection::{End, answer_all};
 pub use process::{conclude, run_process};
 pub use status::Status;
+pub use stop::Stop;
 pub use top::{MOST_INPUT, top_in_turns};
-
-#[cfg(test)]
-mod tests;

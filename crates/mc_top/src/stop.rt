@@ -2,7 +2,7 @@
 
 /// Why a connection stopped before its input ended.
 #[derive(Clone, Copy, Debug, PartialEq, Eq)]
-pub(crate) enum Stop {
+pub enum Stop {
     /// Memory was wanting.
     NoMemory,
     /// The input failed.

@@ -36,6 +36,3 @@ pub use std_sink::StdSink;
 pub use std_source::StdSource;
 pub use system_clock::SystemClock;
 pub use writing::write_all;
-
-#[cfg(test)]
-mod tests;

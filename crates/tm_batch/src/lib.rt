@@ -23,6 +23,3 @@ pub use limits::{
     MOST_REQUESTS, MOST_ROOM, MOST_TRUSTEES, MOST_TRUSTS, WINDOW,
 };
 pub use message::{Answer, AnswerBatch, Completion, Name, Refusal, Request};
-
-#[cfg(test)]
-mod tests;

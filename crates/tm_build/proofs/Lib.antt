@@ -1,2 +1,5 @@
 pub mod Distinct
 pub mod Parts
+pub mod Dealt
+pub mod Holding
+pub mod HeldBy

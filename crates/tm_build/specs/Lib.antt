@@ -1,1 +1,4 @@
 pub mod Checking
+pub mod Dealing
+pub mod Holding
+pub mod Refusing

@@ -91,7 +91,7 @@ fn has_room<S>(config: Config, first: &Vec<First<S>>) -> bool
 }
 
 /// Whether an object names a place as a holder.
-fn names<S>(f: &First<S>, place: u32) -> bool
+pub(crate) fn names<S>(f: &First<S>, place: u32) -> bool
     ensures { result ≡ is_named place f.now }
 {
     f.holders.places().contains(&place)

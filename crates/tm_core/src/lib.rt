@@ -29,6 +29,3 @@ pub use log_laws::{
 };
 pub use machine::Core;
 pub use step::{Step, StepRefused};
-
-#[cfg(test)]
-mod tests;

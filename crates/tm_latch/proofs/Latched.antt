@@ -8,11 +8,11 @@ use Rattle.tm_latch.specs.declared.lines.Ends.{Ends}
 use Rattle.tm_latch.specs.declared.lines.Line.{Line}
 use Rattle.tm_latch.specs.declared.queues.Waiting.{Waiting}
 use Rattle.tm_latch.specs.declared.ticket.Ticket.{Ticket}
-use Rattle.tm_latch.specs.Tickets.{ticket_for, first_of, tickets_of, without_first}
+use Rattle.tm_latch.specs.Tickets.{ticket_for, first_of, tickets_of, with_first, without_first}
 use Rattle.tm_latch.specs.Lines.{Lines, get, IsStrictlySorted, SetsOnly, LosesOnly}
 use Rattle.tm_latch.specs.Queues.{IsQueue, AreOf, IsQueueOf, KeepsOthers}
 use Rattle.tm_latch.specs.Sound.{IsLine, IsSound}
-use Rattle.tm_latch.proofs.Listed.{first_head, first_none, are_of, entered_own, entered_other, left_own, left_other, left_length}
+use Rattle.tm_latch.proofs.Listed.{first_head, first_none, are_of, entered_own, entered_other, left_own, left_other, left_length, with_own, with_none, with_other, with_length}
 
 module _ {K : Type 0} where
   tail_of : (id : ℕ) (ts : List (Ticket K)) (t : Ticket K) (rest : List (Ticket K)) → ts ≡ t ∷ rest → AreOf id ts → AreOf id rest
@@ -100,6 +100,27 @@ module _ {K : Type 0} where
       most = omega (arith, few, length-append ts (ticket_for id n k ∷ []));
       lines_fit = sound.lines_fit;
       cells_fit = rw fits sound.cells_fit;
+    }
+
+    -- the running ticket of an object goes on as another task
+    line_on : (k : K) (line : Option Line) → get lines id ≡ line → IsLine cells line (tickets_of id (with_first id k ts))
+    unfolding IsLine
+    line_on k None is = let none = none_says is in rw (with_none id k ts none) none
+    line_on k (Some line) is =
+        let says = line_says line is in
+        (record says.0 { task = k }, says.1, with_own id k ts says.0 says.1 says.2, says.3, says.4)
+
+    pub sound_on : (k : K) → IsSound lines capacity cells (with_first id k ts) room
+    sound_on k = record {
+      sorted = sound.sorted;
+      each = λ other. elim (cases_eq other id) [
+        | inl same ↦ rw same (line_on k (get lines id) refl)
+        | inr differs ↦ rw (with_other id k ts other differs) (sound.each other)
+      ];
+      count = omega (arith, sound.count, with_length id k ts);
+      most = omega (arith, sound.most, with_length id k ts);
+      lines_fit = sound.lines_fit;
+      cells_fit = sound.cells_fit;
     }
 
     -- the last ticket of an object ends

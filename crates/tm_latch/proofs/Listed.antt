@@ -5,7 +5,7 @@ use Rattle.std.proofs.lemmas.Bool.{cases_eq, eq-eqb, ne_eqb}
 use Rattle.std.proofs.lemmas.List.{append-nil}
 use Rattle.std.proofs.lemmas.List.Elements.{filter-append}
 use Rattle.tm_latch.specs.declared.ticket.Ticket.{Ticket}
-use Rattle.tm_latch.specs.Tickets.{ticket_for, first_of, tickets_of, without_first}
+use Rattle.tm_latch.specs.Tickets.{ticket_for, first_of, tickets_of, with_first, without_first}
 use Rattle.tm_latch.specs.Queues.{AreOf}
 
 module _ {K : Type 0} where
@@ -66,4 +66,46 @@ module _ {K : Type 0} where
   left_length id (u ∷ us) t rest e = elim (cases_eq u.id id) [
     | inl same ↦ rw (eq-eqb u.id id same) (omega arith)
     | inr other ↦ let more = left_length id us t rest (rw (ne_eqb u.id id other) at e) in rw (ne_eqb u.id id other) (omega (arith, more))
+  ]
+
+  -- where the first ticket of an object has another task, its others stay, and so do those of other objects
+  pub with_own :
+      (id : ℕ) (k : K) (ts : List (Ticket K)) (t : Ticket K) (rest : List (Ticket K)) → tickets_of id ts ≡ t ∷ rest
+      → tickets_of id (with_first id k ts) ≡ record t { task = k } ∷ rest
+  unfolding with_first
+  with_own id k [] t rest e = absurd (cc)
+  with_own id k (u ∷ us) t rest e = elim (cases_eq u.id id) [
+    | inl same ↦
+        let f = rw (eq-eqb u.id id same) at e in
+        let head : u ≡ t = cc in
+        let tail : tickets_of id us ≡ rest = cc in
+        rw (eq-eqb u.id id same, eq-eqb u.id id same) (ap (λ (x : Ticket K). record x { task = k } ∷ tickets_of id us) head ∙ ap (λ (l : List (Ticket K)). record t { task = k } ∷ l) tail)
+    | inr other ↦ rw (ne_eqb u.id id other, ne_eqb u.id id other) (with_own id k us t rest (rw (ne_eqb u.id id other) at e))
+  ]
+
+  pub with_none : (id : ℕ) (k : K) (ts : List (Ticket K)) → tickets_of id ts ≡ [] → with_first id k ts ≡ ts
+  unfolding with_first
+  with_none id k [] e = refl
+  with_none id k (u ∷ us) e = elim (cases_eq u.id id) [
+    | inl same ↦ let f = rw (eq-eqb u.id id same) at e in absurd (cc)
+    | inr other ↦ rw (ne_eqb u.id id other) (ap (λ (l : List (Ticket K)). u ∷ l) (with_none id k us (rw (ne_eqb u.id id other) at e)))
+  ]
+
+  pub with_other : (id : ℕ) (k : K) (ts : List (Ticket K)) (other : ℕ) → other ≢ id → tickets_of other (with_first id k ts) ≡ tickets_of other ts
+  unfolding with_first
+  with_other id k [] other differs = refl
+  with_other id k (u ∷ us) other differs = elim (cases_eq u.id id) [
+    | inl same ↦ rw (eq-eqb u.id id same, ne_eqb u.id other (λ e. differs (sym e ∙ same))) refl
+    | inr not_here ↦ elim (cases_eq u.id other) [
+      | inl there ↦ rw (ne_eqb u.id id not_here, eq-eqb u.id other there) (ap (λ (l : List (Ticket K)). u ∷ l) (with_other id k us other differs))
+      | inr not_there ↦ rw (ne_eqb u.id id not_here, ne_eqb u.id other not_there) (with_other id k us other differs)
+    ]
+  ]
+
+  pub with_length : (id : ℕ) (k : K) (ts : List (Ticket K)) → length (with_first id k ts) ≡ length ts
+  unfolding with_first
+  with_length id k [] = refl
+  with_length id k (u ∷ us) = elim (cases_eq u.id id) [
+    | inl same ↦ rw (eq-eqb u.id id same) refl
+    | inr other ↦ rw (ne_eqb u.id id other) (let more = with_length id k us in omega (arith, more))
   ]

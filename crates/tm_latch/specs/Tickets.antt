@@ -16,6 +16,11 @@ module _ {K : Type 0} where
   abbrev pub tickets_of : ℕ → List (Ticket K) → List (Ticket K)
   tickets_of id tickets = filter (λ t. t.id == id) tickets
 
+  -- the tickets, where the first of an object has another task
+  unfoldable pub with_first : ℕ → K → List (Ticket K) → List (Ticket K)
+  with_first id task [] = []
+  with_first id task (t ∷ rest) = if t.id == id then record t { task = task } ∷ rest else t ∷ with_first id task rest
+
   -- the tickets but the first of an object
   unfoldable pub without_first : ℕ → List (Ticket K) → List (Ticket K)
   without_first id [] = []

@@ -1,12 +1,12 @@
 //! The latches of one trustee.
 ghost use Rattle.std.specs.Prelude.{◌≡◌, ◌<◌, ◌≤◌, [], ◌∷◌, ◌++◌, length, None, IsSome, IfOk, option_map};
-ghost use Rattle.tm_latch.specs.Tickets.{ticket_for, first_of, without_first};
+ghost use Rattle.tm_latch.specs.Tickets.{ticket_for, first_of, with_first, without_first};
 ghost use Rattle.tm_latch.specs.declared.entered.Entered.TheVariants.{Running, Queued};
 
 use crate::entered::Entered;
 use crate::lines::{Line, add_line, drop_line, line_of, set_line};
 use crate::queues::{Waiting, append, take_first};
-use crate::ticket::{Ticket, after_enter, after_leave};
+use crate::ticket::{Ticket, after_enter, after_goes_on, after_leave};
 use slab::Slab;
 use std::alloc::{AllocError, Global};
 use std::marker::Model;
@@ -106,6 +106,15 @@ impl<K: Drop> Latches<K> {
                 Entered::Queued
             }
         }
+    }
+
+    /// The ticket that runs on an object goes on as another task. It is told for contracts alone, since
+    /// that task is in the caller's hands: nothing runs.
+    pub fn goes_on(&mut self, id: u64, task: &K)
+        requires { IsSome (first_of id self.old.tickets) }
+        ensures { self.new ≡ record self.old { tickets = with_first id task.now self.old.tickets } }
+    {
+        self.known = after_goes_on(&self.known, id, task);
     }
 
     /// The ticket that runs on an object ends. The one that waits longest, if one waits, runs from now

@@ -14,6 +14,3 @@ mod ticket;
 pub use entered::Entered;
 pub use latches::Latches;
 pub use ticket::Ticket;
-
-#[cfg(test)]
-mod tests;

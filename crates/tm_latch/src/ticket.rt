@@ -1,6 +1,6 @@
 //! The tickets that are known, for contracts alone.
 ghost use Rattle.std.specs.Prelude.{◌≡◌, [], ◌∷◌, ◌++◌};
-ghost use Rattle.tm_latch.specs.Tickets.{ticket_for, without_first};
+ghost use Rattle.tm_latch.specs.Tickets.{ticket_for, with_first, without_first};
 
 use std::marker::Brand;
 use tm_ghost::{GhostList, Items};
@@ -12,7 +12,7 @@ pub struct Ticket<K> {
     pub id: u64,
     /// The ticket.
     pub number: u64,
-    /// The task that it came with.
+    /// The task that it came with, or as which it goes on.
     pub task: K,
 }
 
@@ -32,6 +32,27 @@ fn pick_enter<K, E: Items<Ticket<K>>>(
     _known: &GhostList<Ticket<K>>,
     _id: u64,
     _number: u64,
+    _task: &K,
+) -> GhostList<Ticket<K>>
+    ensures { result.items ≡ E.items }
+{
+    GhostList::of::<E>()
+}
+
+/// The first ticket of an object has another task.
+pub(crate) fn after_goes_on<K>(
+    known: &GhostList<Ticket<K>>,
+    id: u64,
+    task: &K,
+) -> GhostList<Ticket<K>>
+    ensures { result.items ≡ with_first id task.now known.now.items }
+{
+    pick_goes_on::<K, Brand>(known, id, task)
+}
+
+fn pick_goes_on<K, E: Items<Ticket<K>>>(
+    _known: &GhostList<Ticket<K>>,
+    _id: u64,
     _task: &K,
 ) -> GhostList<Ticket<K>>
     ensures { result.items ≡ E.items }

@@ -17,6 +17,3 @@ pub use laws::{
 };
 pub use left::Left;
 pub use objects::{More, Objects};
-
-#[cfg(test)]
-mod tests;

@@ -20,6 +20,3 @@ pub use place::Leaving;
 pub use reference_trustee::ReferenceTrustee;
 pub use refused::{NotResumed, NotSent, NotServed};
 pub use resumed::Resumed;
-
-#[cfg(test)]
-mod tests;

@@ -13,6 +13,3 @@ mod sum;
 pub use counter::{Counter, CounterOp, CounterReply, CounterTask};
 pub use kind::{Entrusted, Event, Next};
 pub use sum::{Beside, Sum};
-
-#[cfg(test)]
-mod tests;

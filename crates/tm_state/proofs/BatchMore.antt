@@ -9,7 +9,7 @@ use Rattle.tm_batch.specs.declared.message.Request.TheVariants.{Entrust, Apply, 
 use Rattle.tm_batch.specs.declared.message.Answer.{Answer}
 use Rattle.tm_model.specs.declared.entry.Entry.{Entry}
 use Rattle.tm_model.specs.declared.entry.Entry.TheVariants.{By}
-use Rattle.tm_model.specs.State.{State, no_place, place_of, place_count}
+use Rattle.tm_model.specs.State.{State, place_of, place_count}
 use Rattle.tm_model.specs.Serve.{state_after}
 use Rattle.tm_model.specs.Legal.{IsLegal}
 use Rattle.tm_model.specs.Laws.{IsOpening}
@@ -17,7 +17,6 @@ use Rattle.tm_model.specs.Ran.{mark_of, ran}
 use Rattle.tm_model.specs.Entries.{entries_by}
 use Rattle.tm_model.specs.Holds.{has_bye, launches_in, unfinished}
 use Rattle.tm_model.specs.Orderly.{GrantsBelow}
-use Rattle.tm_core.proofs.CallerLemmas.{all_at}
 use Rattle.tm_core.proofs.Marks.{ran-append}
 use Rattle.tm_core.proofs.Joins.{legal_logs_join, state-append}
 use Rattle.tm_core.proofs.Ordered.{opening_ordered, log_ordered}
@@ -84,6 +83,7 @@ module _ {V O R T : Type 0} where
         → IsOpening opening → IsLegal kind opening log → c < place_count opening.setup → length answers ≡ length b
         → IsLegal kind (state_after kind opening log) (entries_by c k b answers)
         → unfinished c (state_after kind (state_after kind opening log) (entries_by c k b answers)).live
+        + length (place_of (state_after kind (state_after kind opening log) (entries_by c k b answers)) c).ready
         ≤ unfinished c (state_after kind opening log).live + length (place_of (state_after kind opening log) c).ready + launches_in b
     launches_run opening log c k b answers opens legal lt many more =
         let n = place_count opening.setup in
@@ -94,16 +94,16 @@ module _ {V O R T : Type 0} where
         omega (arith, all, own)
 
     -- whatever log `old` represents, `h` represents it and the entries of the first i requests of the batch b
-    abbrev pub HasRunFront : ℕ → List (Request V O R T) → ℕ → List (Answer V O R T) → StateView V → StateView V → Type 0
+    abbrev pub HasRunFront : ℕ → List (Request V O R T) → ℕ → List (Answer V O R T) → StateView V O R T → StateView V O R T → Type 0
     HasRunFront c b i answers old h =
         (opening : State V O R T) (log : List (Entry V O R T)) → MayRunBatch kind opening log c b old
         → Represents kind opening (log ++ entries_by c (length (ran c log)) (take i b) answers) h
 
-    pub none_run : (c : ℕ) (b : List (Request V O R T)) (answers : List (Answer V O R T)) (old : StateView V) → HasRunFront c b 0 answers old old
+    pub none_run : (c : ℕ) (b : List (Request V O R T)) (answers : List (Answer V O R T)) (old : StateView V O R T) → HasRunFront c b 0 answers old old
     none_run c b answers old opening log may = subst (λ l. Represents kind opening l old) (sym (append-nil log)) may.represents
 
     -- the next request may be asked
-    module _ (c : ℕ) (b : List (Request V O R T)) (i : ℕ) (answers : List (Answer V O R T)) (q : Request V O R T) (old mid : StateView V)
+    module _ (c : ℕ) (b : List (Request V O R T)) (i : ℕ) (answers : List (Answer V O R T)) (q : Request V O R T) (old mid : StateView V O R T)
         (many : length answers ≡ i) (lt : i < length b) (is : get_or b i q ≡ q) (ran_front : HasRunFront c b i answers old mid) where
       as_many : length answers ≡ length (take i b)
       as_many = let all = length-take-le i b (omega arith) in omega (arith, many, all)
@@ -129,8 +129,7 @@ module _ {V O R T : Type 0} where
           let in_rest : launches_in (q ∷ drop (i + 1) b) ≡ launches_in (q ∷ []) + launches_in (drop (i + 1) b) =
           launches_in-append (q ∷ []) (drop (i + 1) b) in
           let most = promised.launches in
-          let none : (place_of t c).ready ≡ [] = all_at (λ p. p.ready ≡ []) t.places c no_place refl represents.keeps.ready in
-          let none_ready : length (place_of t c).ready ≡ 0 = ap length none in
+          let ready : length (place_of t c).ready ≡ length (place_of (state_after kind s es) c).ready = ap (λ (x : State V O R T). length (place_of x c).ready) lands in
           record {
             represents = represents;
             may = record {
@@ -140,13 +139,13 @@ module _ {V O R T : Type 0} where
                   subst (λ z. GrantsBelow z.config.clients q) (sym sound.setup)
                   (all_within (GrantsBelow opening.setup.config.clients) (take i b) (drop (i + 1) b) q
                   (subst (λ l. AllByRecursion (GrantsBelow opening.setup.config.clients) l) split promised.grants));
-              launches = omega (arith, grown, live, in_all, in_rest, most, none_ready);
+              launches = omega (arith, grown, live, in_all, in_rest, most, ready);
               bye = λ bye.
                   let whole : has_bye b ≡ true =
                   subst (λ l. has_bye l ≡ true) (sym split) (bye_behind (take i b) (q ∷ drop (i + 1) b) (bye_more (q ∷ []) (drop (i + 1) b) bye)) in
-                  let (alone, ended, ready) = promised.bye whole in
+                  let (alone, ended, none_ready) = promised.bye whole in
                   let none : launches_in b ≡ 0 = ap launches_in alone in
-                  omega (arith, grown, live, in_all, ended, ready, none);
+                  omega (arith, grown, live, in_all, ended, none_ready, none);
             };
           }
 
@@ -154,7 +153,7 @@ module _ {V O R T : Type 0} where
       next_runnable (opening, log, may) = (opening, log ++ entries_by c (length (ran c log)) (take i b) answers, next_asked opening log may)
 
       pub next_run :
-          (a : Answer V O R T) (more : List (Answer V O R T)) (new : StateView V) → more ≡ answers ++ a ∷ [] → HasRun kind c q a mid new
+          (a : Answer V O R T) (more : List (Answer V O R T)) (new : StateView V O R T) → more ≡ answers ++ a ∷ [] → HasRun kind c q a mid new
           → HasRunFront c b (i + 1) more old new
       next_run a more new longer run opening log may =
           let k = length (ran c log) in
@@ -171,7 +170,7 @@ module _ {V O R T : Type 0} where
           subst (λ l. Represents kind opening l new) (sym all) represents
 
     pub all_run :
-        (c : ℕ) (b : List (Request V O R T)) (i : ℕ) (answers : List (Answer V O R T)) (old new : StateView V) → i ≡ length b → length answers ≡ i
+        (c : ℕ) (b : List (Request V O R T)) (i : ℕ) (answers : List (Answer V O R T)) (old new : StateView V O R T) → i ≡ length b → length answers ≡ i
         → HasRunFront c b i answers old new → HasRunAll kind c b answers old new
     all_run c b i answers old new all many front opening log may =
         let whole : take i b ≡ b = ap (λ n. take n b) all ∙ take-length b in (

@@ -25,7 +25,7 @@ module _ {V O R T : Type 0} where
 
   module _ (kind : Kind V O R T) where
     asked :
-        (opening : State V O R T) (log : List (Entry V O R T)) (c : ℕ) (q : Request V O R T) (h : StateView V) → MayRun kind opening log c q h
+        (opening : State V O R T) (log : List (Entry V O R T)) (c : ℕ) (q : Request V O R T) (h : StateView V O R T) → MayRun kind opening log c q h
         → IsAsked opening (state_after kind opening log) c q h
     asked opening log c q h may = record {
       opens = may.represents.opens;
@@ -34,12 +34,12 @@ module _ {V O R T : Type 0} where
       may = may.may;
     }
 
-    pub servable : (c : ℕ) (q : Request V O R T) (h : StateView V) → IsRunnable kind c q h → IsServable kind c q h
+    pub servable : (c : ℕ) (q : Request V O R T) (h : StateView V O R T) → IsRunnable kind c q h → IsServable kind c q h
     servable c q h (opening, log, may) = (opening, state_after kind opening log, asked opening log c q h may)
 
     -- a log that represents what a trustee has represents it with one entry more
     pub has_run :
-        (c : ℕ) (q : Request V O R T) (a : Answer V O R T) (old mid was : StateView V) (run entries : ℕ) → was ≡ mid
+        (c : ℕ) (q : Request V O R T) (a : Answer V O R T) (old mid was : StateView V O R T) (run entries : ℕ) → was ≡ mid
         → run ≡ min (was.run + 1) (2 ^ 64 - 1) → entries ≡ min (was.entries + 1) (2 ^ 64 - 1)
         → HasServed kind c q a old mid → mid.run ≡ old.run → mid.entries ≡ old.entries
         → HasRun kind c q a old (record was { run = run; entries = entries })
@@ -54,8 +54,8 @@ module _ {V O R T : Type 0} where
         let lands : state_after kind opening (log ++ e ∷ []) ≡ counted c (served kind c q a s) = state-append kind opening log (e ∷ []) in
         let one : requests_in (log ++ e ∷ []) ≡ requests_in log + 1 = requests_in-append log (e ∷ []) in
         let joined : length (log ++ e ∷ []) ≡ length log + 1 = length-append log (e ∷ []) in
-        let ran_was = ap (λ (h : StateView V). h.run) same in
-        let entries_was = ap (λ (h : StateView V). h.entries) same in
+        let ran_was = ap (λ (h : StateView V O R T). h.run) same in
+        let entries_was = ap (λ (h : StateView V O R T). h.entries) same in
         let was_run = may.represents.run in
         let was_entries = may.represents.entries in
         record {

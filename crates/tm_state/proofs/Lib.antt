@@ -1,11 +1,20 @@
 pub mod BatchAnswers
+pub mod BatchGrows
 pub mod BatchKeeps
 pub mod BatchLeaves
 pub mod BatchMore
 pub mod BatchRuns
+pub mod TaskRuns
+pub mod LaunchCounts
+pub mod LaunchLists
+pub mod LaunchTickets
 pub mod OpenedByes
 pub mod OpenedObjects
 pub mod OpenedState
+pub mod ReadyQueues
+pub mod ResumeKeeps
+pub mod ResumeLands
+pub mod ResumeRuns
 pub mod RowsApply
 pub mod RowsEntrust
 pub mod RowsGivenUp
@@ -14,5 +23,6 @@ pub mod RowsKeep
 pub mod RowsLaunch
 pub mod RowsLive
 pub mod RowsOrder
+pub mod RowsRoom
 pub mod RowsTotal
 pub mod RowsWorks

@@ -86,7 +86,7 @@ module _ {V O R T : Type 0} where
         let more = log_closes (after kind s (Sent d room)) es (after_ordered kind n s (Sent d room) legal.0 h) legal.1 in
         closes_more c s _ _ (ran c es) _ gives.closed refl more
 
-  module _ (kind : Kind V O R T) (opening : State V O R T) (log : List (Entry V O R T)) (h : StateView V) (stands : Represents kind opening log h) where
+  module _ (kind : Kind V O R T) (opening : State V O R T) (log : List (Entry V O R T)) (h : StateView V O R T) (stands : Represents kind opening log h) where
     as_many : length h.closed ≡ place_count opening.setup
     as_many =
         let s = state_after kind opening log in

@@ -1,20 +1,21 @@
 -- What a trustee has at first is what the state says in which it opens.
-use Rattle.std.proofs.Common.{◌≡◌, ◌≢◌, ℕ, zero, suc, ◌+◌, ◌<◌, true, false, List, [], ◌∷◌, ◌++◌, length, map, slice_index_or, refl, sym, ◌∙◌, ap, subst, arith, length-append, append-nil}
+use Rattle.std.proofs.Common.{◌≡◌, ◌≢◌, ℕ, zero, suc, ◌+◌, ◌<◌, true, false, List, [], ◌∷◌, ◌++◌, length, map, refl, sym, ◌∙◌, ap, subst, arith, length-append, append-nil}
 use Rattle.std.specs.Prelude.{◌==◌, nat_eq, replicate}
 use Rattle.std.specs.List.{AllByRecursion, IsDistinct}
-use Rattle.std.proofs.lemmas.List.{length-map, length-replicate, get_or-replicate}
+use Rattle.std.proofs.lemmas.List.{length-map, length-replicate}
 use Rattle.tm_seq.specs.Kind.{Kind}
 use Rattle.tm_batch.specs.declared.message.Name.{Name}
 use Rattle.tm_batch.specs.declared.config.Config.{Config}
 use Rattle.tm_batch.specs.declared.config.First.{First}
-use Rattle.tm_model.specs.State.{Place, State, no_place}
+use Rattle.tm_model.specs.State.{Place, State, no_place, place_of}
 use Rattle.tm_model.specs.Opening.{placed_on, opened, opening_of}
 use Rattle.tm_model.specs.Laws.{IsOpening}
 use Rattle.tm_core.proofs.Bounds.{opened_long}
-use Rattle.tm_core.proofs.CallerLemmas.{is_same, all_both, all_filter, all_replicate}
+use Rattle.tm_core.proofs.CallerLemmas.{is_same, all_at, all_both, all_filter, all_replicate}
 use Rattle.tm_core.proofs.First.{opening_unfinished}
 use Rattle.tm_objects.specs.Live.{Live}
 use Rattle.tm_objects.specs.Standing.{live_of, stock_of}
+use Rattle.tm_state.specs.Launches.{works_at}
 use Rattle.tm_state.specs.StateView.{StateView}
 use Rattle.tm_state.specs.Represents.{Represents}
 use Rattle.tm_state.specs.Opened.{MayOpen}
@@ -28,7 +29,7 @@ map-replicate : {X Y : Type 0} (f : X → Y) (n : ℕ) (x : X) → map f (replic
 map-replicate f zero x = refl
 map-replicate {Y = Y} f (suc n) x = ap (λ (l : List Y). f x ∷ l) (map-replicate f n x)
 
-module _ {V : Type 0} (T : Type 0) where
+module _ {V : Type 0} (O R T : Type 0) where
   -- what is known of an object of the build that is placed on a trustee
   record IsOn (clients number : ℕ) (f : First V) : Type 0 where
     pub held : f.holders ≢ []
@@ -53,8 +54,8 @@ module _ {V : Type 0} (T : Type 0) where
       }
 
   pub may_place :
-      (number : ℕ) (config : Config) (whole first front rest : List (First V)) (f : First V) (h : StateView V) → MayOpen number config whole first
-      → front ++ f ∷ rest ≡ first → h ≡ begun_with T number config front → MayPlace f h.stock
+      (number : ℕ) (config : Config) (whole first front rest : List (First V)) (f : First V) (h : StateView V O R T) → MayOpen number config whole first
+      → front ++ f ∷ rest ≡ first → h ≡ begun_with O R T number config front → MayPlace f h.stock
   may_place number config whole first front rest f h may is e =
       let n = config.clients + number in
       let on = on_trustee number config whole first front rest f may is in
@@ -87,32 +88,38 @@ module _ {V : Type 0} (T : Type 0) where
 
   -- one more object of the build is placed
   pub begun_more :
-      (number : ℕ) (config : Config) (front : List (First V)) (f : First V) (h k : StateView V) → h ≡ begun_with T number config front
-      → k ≡ record h { stock = placed T f h.stock } → k ≡ begun_with T number config (front ++ f ∷ [])
+      (number : ℕ) (config : Config) (front : List (First V)) (f : First V) (h k : StateView V O R T) → h ≡ begun_with O R T number config front
+      → k ≡ record h { stock = placed T f h.stock } → k ≡ begun_with O R T number config (front ++ f ∷ [])
   begun_more number config front f h k e is =
       let n = config.clients + number in
-      let old = begun_with T number config front in
+      let old : StateView V O R T = begun_with O R T number config front in
       let S = λ (next : ℕ) (live : List (Live V)). record old { stock = record old.stock { next_id = next; live = live } } in
       let wide : length (replicate {A = List Name} n []) ≡ n = length-replicate {A = List Name} n [] in
       let count : length front + 1 + 1 ≡ length (front ++ f ∷ []) + 1 = let long = length-append front (f ∷ []) in omega (arith, long) in
-      is ∙ ap (λ (x : StateView V). record x { stock = placed T f x.stock }) e
+      is ∙ ap (λ (x : StateView V O R T). record x { stock = placed T f x.stock }) e
       ∙ ap (λ w. S (length front + 1 + 1) (old.stock.live ++ map live_of (opened {T = T} w (length front + 1) (f ∷ [])))) wide
       ∙ ap (S (length front + 1 + 1)) (sym (live_more n 1 (length front + 1) front f (omega arith)))
       ∙ ap (λ m. S m (map live_of (opened {T = T} n 1 (front ++ f ∷ [])))) count
 
-module _ {V : Type 0} (T : Type 0) where
+module _ {V : Type 0} (O R T : Type 0) where
   -- no object of the build is left
   pub all_placed :
-      (front rest first : List (First V)) (number : ℕ) (config : Config) (h : StateView V) → length rest ≡ 0 → front ++ rest ≡ first
-      → h ≡ begun_with T number config front → h ≡ begun_with T number config first
-  all_placed front [] first number config h none is e = e ∙ ap (begun_with T number config) (sym (append-nil front) ∙ is)
+      (front rest first : List (First V)) (number : ℕ) (config : Config) (h : StateView V O R T) → length rest ≡ 0 → front ++ rest ≡ first
+      → h ≡ begun_with O R T number config front → h ≡ begun_with O R T number config first
+  all_placed front [] first number config h none is e = e ∙ ap (begun_with O R T number config) (sym (append-nil front) ∙ is)
   all_placed front (f ∷ rest) first number config h none is e = absurd (omega arith)
+
+-- an object of the build has no launch
+opened_works :
+    {V : Type 0} (T : Type 0) (n id : ℕ) (first : List (First V)) → AllByRecursion (λ o. works_at {T = T} o.id [] ≡ o.works) (opened {T = T} n id first)
+opened_works T n id [] = tt
+opened_works T n id (f ∷ first) = (refl, opened_works T n (id + 1) first)
 
 module _ {V O R T : Type 0} (kind : Kind V O R T) where
   -- once all objects of the build are placed, a trustee has what its empty log leaves
   pub begun_represents :
-      (number : ℕ) (config : Config) (whole first : List (First V)) (h : StateView V) → MayOpen number config whole first
-      → h ≡ begun_with T number config first → Represents kind (opening_of number config whole) [] h
+      (number : ℕ) (config : Config) (whole first : List (First V)) (h : StateView V O R T) → MayOpen number config whole first
+      → h ≡ begun_with O R T number config first → Represents kind (opening_of number config whole) [] h
   begun_represents number config whole first h may e =
       let n = config.clients + number in
       let s : State V O R T = opening_of number config whole in
@@ -120,8 +127,8 @@ module _ {V O R T : Type 0} (kind : Kind V O R T) where
       let gifts : replicate n [] ≡ map (λ p. p.gifts) s.places = sym (map-replicate (λ (p : Place V O R T). p.gifts) n no_place) in
       let closed : replicate n false ≡ map (λ p. p.is_closed) s.places = sym (map-replicate (λ (p : Place V O R T). p.is_closed) n no_place) in
       let wide : length s.places ≡ n = length-replicate n no_place in
-      let empty : (c : ℕ) → c < n → slice_index_or (replicate {A = List (ℕ × ℕ)} n []) c [] ≡ [] = λ c lt. get_or-replicate {A = List (ℕ × ℕ)} n c [] [] lt in
-      let whole_is : h ≡ begun_with T number config (placed_on number whole) = e ∙ ap (begun_with T number config) may.placed in
+      let ready : replicate n [] ≡ map (λ p. p.ready) s.places = sym (map-replicate (λ (p : Place V O R T). p.ready) n no_place) in
+      let whole_is : h ≡ begun_with O R T number config (placed_on number whole) = e ∙ ap (begun_with O R T number config) may.placed in
       rw whole_is (record {
         opens = opens;
         is_legal = tt;
@@ -131,12 +138,14 @@ module _ {V O R T : Type 0} (kind : Kind V O R T) where
           stock = ap (λ g. record (stock_of s) { gifts = g }) gifts;
           closed = closed;
           next_ticket = refl;
-          counts = length-replicate {A = List (ℕ × ℕ)} n [] ∙ sym wide;
-          launched = λ c lt. ap length (empty c (omega (arith, lt, wide))) ∙ sym (opening_unfinished s c opens);
-          works = λ c lt. rw (empty c (omega (arith, lt, wide))) tt;
-          tickets = λ c lt. rw (empty c (omega (arith, lt, wide))) (omega arith);
-          most = λ c lt. let none = opening_unfinished s c opens in omega (arith, none);
-          ready = all_replicate (λ (p : Place V O R T). p.ready ≡ []) n no_place refl;
+          works = opened_works T n 1 (placed_on number whole);
+          live = tt;
+          awaits = tt;
+          ready = ready;
+          most = λ c lt.
+              let none = opening_unfinished s c opens in
+              let no_ready : length (place_of s c).ready ≡ 0 = ap length (all_at (λ (p : Place V O R T). p.ready ≡ []) s.places c no_place refl (all_replicate (λ (p : Place V O R T). p.ready ≡ []) n no_place refl)) in
+              omega (arith, none, no_ready);
         };
         run = refl;
         entries = refl;

@@ -21,7 +21,7 @@ use Rattle.tm_state.proofs.RowsWorks.{stay_change}
 use Rattle.tm_state.proofs.RowsLive.{HeldAt, held_at, of_object, from_live, is_held}
 
 module _ {V O R T : Type 0} (kind : Kind V O R T) (laws : KindLaws kind) where
-  module _ (opening s : State V O R T) (c : ℕ) (h : StateView V) (n : Name) (op : O) (asked : IsAsked opening s c (Apply n op) h) where
+  module _ (opening s : State V O R T) (c : ℕ) (h : StateView V O R T) (n : Name) (op : O) (asked : IsAsked opening s c (Apply n op) h) where
     at : HeldAt s h c n.id
     at = held_at n.id refl asked
 
@@ -43,6 +43,6 @@ module _ {V O R T : Type 0} (kind : Kind V O R T) (laws : KindLaws kind) where
         (λ x is named. ap (λ (z : V). record x { value = z }) (new ∙ ap (λ (y : Object V T). value_run kind y.value op r) (sym (is named)))) only) in (
           (is_held at, of_object at (λ x. IsRun kind x.value op (value_run kind x.value op r) r) (subst (λ x. IsRun kind o.value op x r) new lawful)),
           keeps_live s h s.next_id (change n.id f s.live) (changed n.id h.stock w) k (λ d. unfinished_change d n.id f s.live (λ x. refl))
-              (stay_change n.id f s.live (λ x. refl) (λ x d ticket w. w))
+              (stay_change n.id f s.live (λ x. refl) (λ x. refl))
               (ap (λ (x : Stock V). changed n.id x w) k.stock ∙ sym (changes_alike V O R T n.id w s) ∙ ap (λ l. stock_of (with_live l s)) same),
         )

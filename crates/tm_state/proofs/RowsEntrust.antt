@@ -12,7 +12,8 @@ use Rattle.tm_batch.specs.declared.message.Refusal.TheVariants.{ObjectsFull, Ser
 use Rattle.tm_batch.specs.declared.message.Request.TheVariants.{Entrust}
 use Rattle.tm_batch.specs.declared.message.Answer.{Answer}
 use Rattle.tm_batch.specs.declared.message.Answer.TheVariants.{Entrusted, NotEntrusted}
-use Rattle.tm_model.specs.State.{State}
+use Rattle.std.specs.declared.option.Option.TheVariants.{None}
+use Rattle.tm_model.specs.State.{State, object_of}
 use Rattle.tm_model.specs.Serve.{served}
 use Rattle.tm_model.specs.Serve as serve
 use Rattle.tm_model.specs.Legal.{Serves}
@@ -25,7 +26,7 @@ use Rattle.tm_state.specs.Represents.{Keeps}
 use Rattle.tm_state.proofs.RowsKeep.{Row, keeps_live}
 use Rattle.tm_state.proofs.RowsWorks.{stay_append}
 
-module _ {V O R T : Type 0} (kind : Kind V O R T) (s : State V O R T) (c : ℕ) (v : V) (h : StateView V) (k : Keeps s h) (stock : Stock V)
+module _ {V O R T : Type 0} (kind : Kind V O R T) (s : State V O R T) (c : ℕ) (v : V) (h : StateView V O R T) (k : Keeps s h) (fresh : object_of s.live s.next_id ≡ None) (stock : Stock V)
     (r : Result Name (Refusal × V))
     (full : h.stock.most ≤ length h.stock.live → (r ≡ Err (ObjectsFull, v)) × (stock ≡ h.stock))
     (spent : length h.stock.live < h.stock.most → h.stock.last_id < h.stock.next_id → (r ≡ Err (SerialsSpent, v)) × (stock ≡ h.stock))
@@ -53,7 +54,7 @@ module _ {V O R T : Type 0} (kind : Kind V O R T) (s : State V O R T) (c : ℕ) 
           (id, omega (arith, room, most, long), omega (arith, left, next, last)),
           keeps_live s h (s.next_id + 1) (serve.entrusted c v name s).live stock k
               (λ d. let more = unfinished-append d s.live (record { id = name.id; value = v; holds = slice_set (map (λ _. 0) s.places) c 1; works = [] } ∷ []) in omega (arith, more))
-              (stay_append s.live _)
+              (stay_append s.live (record { id = name.id; value = v; holds = slice_set (map (λ _. 0) s.places) c 1; works = [] }) (subst (λ i. object_of s.live i ≡ None) (sym id) fresh) refl)
               (is ∙ ap (entrusted c v) k.stock ∙ sym (entrusts_alike V O R T c v name s id)),
         )
 

@@ -27,14 +27,14 @@ use Rattle.tm_state.proofs.RowsKeep.{Row, keeps_live, keeps_place}
 use Rattle.tm_state.proofs.RowsWorks.{WorksStay, stay_change, stay_map, stay_kept, stay_without}
 use Rattle.tm_state.proofs.RowsLive.{HeldAt, held_at, of_object, from_live, is_held}
 
-module _ {V O R T : Type 0} (kind : Kind V O R T) (opening s : State V O R T) (c : ℕ) (h : StateView V) (stock : Stock V) where
+module _ {V O R T : Type 0} (kind : Kind V O R T) (opening s : State V O R T) (c : ℕ) (h : StateView V O R T) (stock : Stock V) where
   -- a hold of the place goes
   pub release_row : (n : Name) → IsAsked opening s c (Release n) h → stock ≡ released c n.id h.stock → Row kind s c (Release n) Released (record h { stock = stock })
   release_row n asked is =
       let k = asked.keeps in (
         (is_held (held_at n.id refl asked), refl),
         keeps_live s h s.next_id (serve.released c n.id s).live stock k (λ d. unfinished_kept d _ ∙ unfinished_change d n.id _ s.live (λ o. refl))
-            (λ d id ticket w. stay_kept _ d id ticket (stay_change n.id (λ o. with_holds c (holds_of o c - 1) o) s.live (λ o. refl) (λ o d ticket w. w) d id ticket w))
+            (λ l k. stay_kept _ l (stay_change n.id (λ o. with_holds c (holds_of o c - 1) o) s.live (λ o. refl) (λ o. refl) l k))
             (is ∙ ap (released c n.id) k.stock ∙ sym (releases_alike V O R T c n.id s)),
       )
 
@@ -119,7 +119,7 @@ module _ {V O R T : Type 0} (kind : Kind V O R T) (opening s : State V O R T) (c
         refl,
         keeps_place s h c (record (place_of s c) { is_closed = true; gifts = [] }) (serve.closed c s).live stock shut k
             (λ d. unfinished_kept d _ ∙ unfinished_map d _ s.live (λ o. refl))
-            (λ d id ticket w. stay_kept _ d id ticket (stay_map (λ o. with_holds c 0 o) s.live (λ o. refl) (λ o d ticket w. w) d id ticket w)) refl
+            (λ l k. stay_kept _ l (stay_map (λ o. with_holds c 0 o) s.live (λ o. refl) (λ o. refl) l k)) refl
             (is ∙ ap (closed c) k.stock ∙ sym (closes_alike V O R T c s))
             (closes ∙ ap (λ l. slice_set l c true) k.closed ∙ sym (map-set (λ (p : Place V O R T). p.is_closed) s.places c _)),
       )

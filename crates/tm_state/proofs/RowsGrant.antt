@@ -23,7 +23,7 @@ use Rattle.tm_state.proofs.RowsKeep.{Row, keeps_place}
 use Rattle.tm_state.proofs.RowsWorks.{stay_change}
 use Rattle.tm_state.proofs.RowsLive.{HeldAt, held_at, of_object, is_held}
 
-module _ {V O R T : Type 0} (kind : Kind V O R T) (opening s : State V O R T) (c : ℕ) (h : StateView V) (n : Name) (to : ℕ)
+module _ {V O R T : Type 0} (kind : Kind V O R T) (opening s : State V O R T) (c : ℕ) (h : StateView V O R T) (n : Name) (to : ℕ)
     (asked : IsAsked opening s c (Grant n to) h) where
   at : HeldAt s h c n.id
   at = held_at n.id refl asked
@@ -77,7 +77,7 @@ module _ {V O R T : Type 0} (kind : Kind V O R T) (opening s : State V O R T) (c
             ),
           ),
           keeps_place s h to p (serve.granted n to s).live stock h.closed asked.keeps (λ d. unfinished_change d n.id _ s.live (λ o. refl))
-              (stay_change n.id (λ o. with_holds to (holds_of o to + 1) o) s.live (λ o. refl) (λ o d ticket w. w)) refl
+              (stay_change n.id (λ o. with_holds to (holds_of o to + 1) o) s.live (λ o. refl) (λ o. refl)) refl
               (is ∙ ap (granted n to) asked.keeps.stock ∙ sym (grants_alike V O R T n to s))
               (asked.keeps.closed ∙ sym (map-set_same (λ (p : Place V O R T). p.is_closed) s.places to p no_place refl)),
         )

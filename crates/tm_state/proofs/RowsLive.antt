@@ -18,7 +18,7 @@ use Rattle.tm_state.specs.Asking.{IsAsked}
 
 module _ {V T : Type 0} where
   -- an object that is found is found in the stock
-  found_alike :
+  pub found_alike :
       (objects : List (Object V T)) (id : ℕ) (o : Object V T) → object_of objects id ≡ Some o
       → live.object_of (map live_of objects) id ≡ Some (live_of o)
   found_alike [] id o at = absurd cc
@@ -33,13 +33,13 @@ module _ {V T : Type 0} where
 
 module _ {V O R T : Type 0} where
   -- the object of an id that a place holds, in a state and in the stock that represents it
-  pub record HeldAt (s : State V O R T) (h : StateView V) (c id : ℕ) : Type 0 where
+  pub record HeldAt (s : State V O R T) (h : StateView V O R T) (c id : ℕ) : Type 0 where
     pub object : Object V T
     pub found : object_of s.live id ≡ Some object
     pub has : live.object_of h.stock.live id ≡ Some (live_of object)
     pub held : 1 ≤ holds_of object c
 
-  pub held_at : {opening s : State V O R T} {c : ℕ} {q : Request V O R T} {h : StateView V} (id : ℕ) → Names q id → IsAsked opening s c q h → HeldAt s h c id
+  pub held_at : {opening s : State V O R T} {c : ℕ} {q : Request V O R T} {h : StateView V O R T} (id : ℕ) → Names q id → IsAsked opening s c q h → HeldAt s h c id
   held_at {s = s} {c = c} {h = h} id named asked =
       let (o, at, held) = found (object_of s.live id) (λ o. 1 ≤ holds_of o c) (asked.may.held id named) in
       record {
@@ -49,7 +49,7 @@ module _ {V O R T : Type 0} where
         held = held;
       }
 
-  module _ {s : State V O R T} {h : StateView V} {c id : ℕ} (at : HeldAt s h c id) where
+  module _ {s : State V O R T} {h : StateView V O R T} {c id : ℕ} (at : HeldAt s h c id) where
     -- what holds of that object holds of the one of the id
     pub of_object : (P : Object V T → Type 0) → P at.object → HasObject s id P
     of_object P p = subst (λ x. IsSomeAnd x P) (sym at.found) p
@@ -68,12 +68,12 @@ module _ {V O R T : Type 0} where
     is_held = of_object (λ o. 1 ≤ holds_of o c) at.held
 
   -- a place is one of those whose gifts are kept
-  pub place_within : {s : State V O R T} {h : StateView V} → Keeps s h → (d : ℕ) → d < length s.places → d < length h.stock.gifts
+  pub place_within : {s : State V O R T} {h : StateView V O R T} → Keeps s h → (d : ℕ) → d < length s.places → d < length h.stock.gifts
   place_within {s} {h} k d lt =
       let long : length h.stock.gifts ≡ length s.places = ap (λ (x : Stock V). length x.gifts) k.stock ∙ length-map s.places (λ (p : Place V O R T). p.gifts) in
       omega (arith, long, lt)
 
-  pub asker_within : {opening s : State V O R T} {c : ℕ} {q : Request V O R T} {h : StateView V} → IsAsked opening s c q h → c < length s.places
+  pub asker_within : {opening s : State V O R T} {c : ℕ} {q : Request V O R T} {h : StateView V O R T} → IsAsked opening s c q h → c < length s.places
   asker_within asked =
       let e = ap (λ x. place_count x) asked.sound.setup in
       omega (arith, asked.sound.places, asked.may.in_range, e)

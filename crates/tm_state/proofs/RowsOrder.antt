@@ -3,14 +3,15 @@ use Rattle.std.proofs.Common.{◌≡◌, ℕ, ◌+◌, ◌<◌, ◌≤◌, List,
 use Rattle.std.specs.List.{AllByRecursion}
 use Rattle.std.specs.List.Sorted.{IsStrictlySortedBy}
 use Rattle.std.specs.declared.cmp.Ordering.TheVariants.{Less}
-use Rattle.std.specs.declared.option.Option.TheVariants.{Some}
+use Rattle.std.specs.declared.option.Option.TheVariants.{None, Some}
 use Rattle.std.specs.Ordering.{nat_cmp}
 use Rattle.std.specs.Cmp.{ranked}
 use Rattle.std.proofs.lemmas.Bool.{cases_eq}
 use Rattle.std.proofs.lemmas.Map.Keys.{sorted_from_strictly_increasing}
 use Rattle.tm_model.specs.State.{Object, State, place_count, change, object_of}
 use Rattle.tm_model.specs.Laws.{IsSound, IsSoundObject}
-use Rattle.tm_core.proofs.CallerLemmas.{all_weaker, all_both}
+use Rattle.tm_core.proofs.CallerLemmas.{all_weaker, all_both, option_cases}
+use Rattle.tm_core.proofs.Finding.{found_below}
 use Rattle.tm_core.proofs.Rising.{RisesTo}
 use Rattle.tm_core.proofs.Bounds.{rises_all}
 use Rattle.tm_core.proofs.Ordered.{IsOrdered}
@@ -77,3 +78,11 @@ module _ {V O R T : Type 0} where
         places = h.places;
         count = ap (λ x. place_count x) h.setup;
       }
+
+  -- the next id is not live
+  pub fresh_id : (opening s : State V O R T) → IsSound opening s → object_of s.live s.next_id ≡ None
+  fresh_id opening s h =
+      elim (option_cases (object_of s.live s.next_id)) [
+        | inl none ↦ none
+        | inr is ↦ absurd (let lt = found_below (place_count opening.setup) 1 s.next_id s.next_id s.live is.0 (sound_ordered opening s h).rises is.1 in omega (arith, lt))
+      ]

@@ -29,7 +29,7 @@ sum_few (n ∷ ns) h =
 
 module _ {T : Type 0} where
   -- how many of some launches are of the first n places
-  below : ℕ → List (Work T) → ℕ
+  pub below : ℕ → List (Work T) → ℕ
   below zero ws = 0
   below (suc n) ws = works_of n ws + below n ws
 
@@ -47,11 +47,11 @@ module _ {T : Type 0} where
         | inr ne ↦ let more = one_more n w ws (omega (arith, lt, ne)) in omega (arith, more)
       ]
 
-  all_below : (n : ℕ) (ws : List (Work T)) → AllByRecursion (λ w. w.place < n) ws → length ws ≤ below n ws
+  pub all_below : (n : ℕ) (ws : List (Work T)) → AllByRecursion (λ w. w.place < n) ws → length ws ≤ below n ws
   all_below n [] h = omega arith
   all_below n (w ∷ ws) h = let more = all_below n ws h.1 in let one = one_more n w ws h.0 in omega (arith, more, one)
 
-  below_few : (n : ℕ) (ws : List (Work T)) → ((c : ℕ) → c < n → works_of c ws ≤ WINDOW) → below n ws ≤ WINDOW * n
+  pub below_few : (n : ℕ) (ws : List (Work T)) → ((c : ℕ) → c < n → works_of c ws ≤ WINDOW) → below n ws ≤ WINDOW * n
   unfolding below
   below_few zero ws h = omega arith
   below_few (suc n) ws h =
@@ -69,7 +69,7 @@ module _ {V O R T : Type 0} where
 
   -- all holds on an object and its launches are fewer than a `u64` counts
   pub total_few :
-      {opening s : State V O R T} {c : ℕ} {q : Request V O R T} {h : StateView V} {id : ℕ} → IsAsked opening s c q h → (at : HeldAt s h c id)
+      {opening s : State V O R T} {c : ℕ} {q : Request V O R T} {h : StateView V O R T} {id : ℕ} → IsAsked opening s c q h → (at : HeldAt s h c id)
       → total (live_of at.object) < 18446744073709551615
   total_few {opening} {s} {id = id} asked at =
       let o = at.object in

@@ -18,6 +18,6 @@ module _ {V : Type 0} where
   IsOpenable number config first = (whole : List (First V)) × MayOpen number config whole first
 
 -- whatever the whole list is, a trustee has what the state says in which it opens
-abbrev pub HasOpened : {V O R T : Type 0} → Kind V O R T → ℕ → Config → List (First V) → StateView V → Type 0
+abbrev pub HasOpened : {V O R T : Type 0} → Kind V O R T → ℕ → Config → List (First V) → StateView V O R T → Type 0
 HasOpened {V} {O} {R} {T} kind number config first h =
     (whole : List (First V)) → MayOpen number config whole first → Represents kind (opening_of number config whole) [] h

@@ -28,8 +28,9 @@ module _ {V : Type 0} where
       live = s.live ++ map live_of (opened {T = T} (length s.gifts) s.next_id (f ∷ []));
     }
 
+  module _ (O R T : Type 0) where
     -- what trustee `number` has before anything runs, where the objects `front` of the build are placed on it
-    abbrev pub begun_with : ℕ → Config → List (First V) → StateView V
+    abbrev pub begun_with : ℕ → Config → List (First V) → StateView V O R T
     begun_with number config front = record {
       config = config;
       number = number;
@@ -41,7 +42,8 @@ module _ {V : Type 0} where
         gifts = replicate (config.clients + number) [];
       };
       closed = replicate (config.clients + number) false;
-      launched = replicate (config.clients + number) [];
+      launched = [];
+      ready = replicate (config.clients + number) [];
       next_ticket = 1;
       run = 0;
       entries = 0;

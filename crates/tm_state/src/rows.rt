@@ -2,9 +2,10 @@
 ghost use Rattle.std.specs.Prelude.{◌≡◌};
 ghost use Rattle.tm_batch.specs.declared.message.Request.TheVariants.{Entrust, Apply, Launch, Grant, Release, Reclaim, Bye};
 ghost use Rattle.tm_state.specs.Asking.{IsServable, HasServed};
+ghost use Rattle.tm_state.specs.Launches.{Grows};
 
+use crate::launch::to_begin;
 use crate::state::TrusteeState;
-use crate::work::Work;
 use tm_batch::{Answer, Name, Request};
 use tm_objects::More;
 use tm_seq::Entrusted;
@@ -16,6 +17,7 @@ impl<S: Entrusted> TrusteeState<S> {
         ensures served { HasServed S.kind place request result self.old self.new }
         ensures run { self.new.run ≡ self.old.run }
         ensures entries { self.new.entries ≡ self.old.entries }
+        ensures launched { Grows self.old.launched self.new.launched }
     {
         match request {
             Request::Entrust(value) => self.entrust(place, value),
@@ -33,6 +35,7 @@ impl<S: Entrusted> TrusteeState<S> {
         ensures served { HasServed S.kind place (Entrust value) result self.old self.new }
         ensures run { self.new.run ≡ self.old.run }
         ensures entries { self.new.entries ≡ self.old.entries }
+        ensures launched { self.new.launched ≡ self.old.launched }
     {
         match self.objects.entrust(place, value) {
             Ok(name) => Answer::Entrusted(name),
@@ -45,6 +48,7 @@ impl<S: Entrusted> TrusteeState<S> {
         ensures served { HasServed S.kind place (Apply name op) result self.old self.new }
         ensures run { self.new.run ≡ self.old.run }
         ensures entries { self.new.entries ≡ self.old.entries }
+        ensures launched { self.new.launched ≡ self.old.launched }
     {
         Answer::Replied(self.objects.value_mut(name).run(op))
     }
@@ -54,17 +58,14 @@ impl<S: Entrusted> TrusteeState<S> {
         ensures served { HasServed S.kind place (Launch name task) result self.old self.new }
         ensures run { self.new.run ≡ self.old.run }
         ensures entries { self.new.entries ≡ self.old.entries }
+        ensures launched { Grows self.old.launched self.new.launched }
     {
         if self.tickets >= self.config.last_id {
             return Answer::TicketsSpent(task);
         }
         self.tickets += 1;
         self.objects.begin(name);
-        self.launched[place as usize].push_reserved(Work {
-            id: name.id,
-            ticket: self.tickets,
-            task,
-        });
+        self.launches.add(to_begin(name, self.tickets, place, task));
         Answer::Launched(self.tickets)
     }
 
@@ -73,6 +74,7 @@ impl<S: Entrusted> TrusteeState<S> {
         ensures served { HasServed S.kind place (Grant name to) result self.old self.new }
         ensures run { self.new.run ≡ self.old.run }
         ensures entries { self.new.entries ≡ self.old.entries }
+        ensures launched { self.new.launched ≡ self.old.launched }
     {
         if self.closed[to as usize] {
             return Answer::Gone;
@@ -89,6 +91,7 @@ impl<S: Entrusted> TrusteeState<S> {
         ensures served { HasServed S.kind place (Release name) result self.old self.new }
         ensures run { self.new.run ≡ self.old.run }
         ensures entries { self.new.entries ≡ self.old.entries }
+        ensures launched { self.new.launched ≡ self.old.launched }
     {
         // Whether the object went changes no answer.
         let _ = self.objects.release(name, place);
@@ -100,6 +103,7 @@ impl<S: Entrusted> TrusteeState<S> {
         ensures served { HasServed S.kind place (Reclaim name) result self.old self.new }
         ensures run { self.new.run ≡ self.old.run }
         ensures entries { self.new.entries ≡ self.old.entries }
+        ensures launched { self.new.launched ≡ self.old.launched }
     {
         match self.objects.reclaim(name, place) {
             Ok(value) => Answer::Reclaimed(value),
@@ -112,6 +116,7 @@ impl<S: Entrusted> TrusteeState<S> {
         ensures served { HasServed S.kind place Bye result self.old self.new }
         ensures run { self.new.run ≡ self.old.run }
         ensures entries { self.new.entries ≡ self.old.entries }
+        ensures launched { self.new.launched ≡ self.old.launched }
     {
         // Nor does how many objects go.
         let _ = self.objects.drop_client(place);

@@ -2,4 +2,6 @@ mod DrivenAsked
 mod DrivenFirst
 mod DrivenKept
 mod DrivenTurned
+mod LaunchingFirst
+mod LaunchingKept
 mod Sampling

@@ -1,2 +1,3 @@
 pub mod Driving
+pub mod Launching
 pub mod Sample

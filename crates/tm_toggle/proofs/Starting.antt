@@ -19,7 +19,7 @@ use Rattle.tm_pair.specs.SideViews.{client_of}
 use Rattle.tm_pair.specs.Moves.{core_after}
 use Rattle.tm_pair.specs.declared.moves.Move.TheVariants.{Open}
 use Rattle.tm_pair.proofs.Calling.{nothing_out}
-use Rattle.tm_toggle.specs.Contents.{IsClear, no_content}
+use Rattle.tm_toggle.specs.Contents.{IsFull, IsClear, no_content}
 use Rattle.tm_toggle.specs.Ruled.{r_of, s_of, bit, opening_in, opening_by, client_in, IsByTrustee, IsHome, Course, Knows, Delegates}
 use Rattle.tm_toggle.specs.Plays.{Sat, first_view, settles, with_client, new_client}
 use Rattle.tm_toggle.specs.declared.content.Content.{Content}
@@ -64,8 +64,8 @@ changed_else f p a d ne = ap (λ (x : Bool). cond x a (f d)) (ne_eqb d p ne)
 abbrev no_slot_of : (V O R T : Type 0) → FullSlot V O R T
 no_slot_of V O R T = no_slot
 
-abbrev pub empty_of : (V O R T : Type 0) → Content V O R T
-empty_of V O R T = no_content
+abbrev pub empty_of : {V O R T : Type 0} → Kind V O R T → Content V O R T
+empty_of kind = no_content kind
 
 -- the calls of a table of so many places at first
 abbrev pub course_of : (V O R T : Type 0) → ℕ → Course V O R T
@@ -75,8 +75,21 @@ module _ {V O R T : Type 0} where
   pub fresh_slot : (n c : ℕ) → slice_index_or (replicate n (no_slot_of V O R T)) c no_slot ≡ no_slot_of V O R T
   fresh_slot n c = always n c (no_slot_of V O R T)
 
-  clear : IsClear (empty_of V O R T)
-  clear = (refl, record { answers = refl; gifts = refl; completions = refl })
+  full : (kind : Kind V O R T) → IsFull (empty_of kind)
+  full kind = record {
+    requests = refl;
+    answers = refl;
+    gifts = refl;
+    completions = refl;
+    counts = refl;
+    asked_most = omega arith;
+    answered_most = omega arith;
+    given_most = omega arith;
+    ended_most = omega arith;
+  }
+
+  clear : (kind : Kind V O R T) → IsClear (empty_of kind)
+  clear kind = (record { requests = refl; full = full kind }, record { answers = refl; gifts = refl; completions = refl; full = full kind })
 
 module _ {V O R T : Type 0} (kind : Kind V O R T) where
   one :
@@ -102,12 +115,12 @@ module _ {V O R T : Type 0} (kind : Kind V O R T) where
 
   starts_at :
       (key : Key V O R T) → IsBuildable key.config key.first.items → key.number < key.config.trustees
-      → Delegates kind (opening_by key) (opening_table (replicate (32 * (key.config.clients + key.number) + 48) 0) (replicate (key.config.clients + key.number) no_content) (first_view key))
+      → Delegates kind (opening_by key) (opening_table (replicate (32 * (key.config.clients + key.number) + 48) 0) (replicate (key.config.clients + key.number) (no_content kind)) (first_view key))
   starts_at key buildable number =
       let n = key.config.clients + key.number in
       let opening = opening_by key in
       let is : IsOpening opening = (key.number, key.config, key.first.items, buildable, number, refl) in
-      let empty : Content V O R T = no_content in
+      let empty : Content V O R T = no_content kind in
       let z : ℕ = 0 in
       let deep : length (map some (replicate n empty)) ≡ n = length-map (replicate n empty) some ∙ length-replicate n empty in
       let back : (c : ℕ) → c < length (map some (replicate n empty)) → c < n = λ c l. subst (λ (k : ℕ). c < k) deep l in (
@@ -124,7 +137,7 @@ module _ {V O R T : Type 0} (kind : Kind V O R T) where
           homes = λ c l. (
             some empty,
             at_map some (replicate n empty) c empty (at_replicate n c empty (back c l)),
-            subst (λ (x : FullSlot V O R T). IsHome false (0 == c + 1) (some empty) x.box) (sym (fresh_slot n c)) (empty, refl, clear),
+            subst (λ (x : FullSlot V O R T). IsHome false (0 == c + 1) (some empty) x.box) (sym (fresh_slot n c)) (empty, refl, clear kind),
           );
           later = λ c l. let f = fresh_slot n c in record {
             view = ap (λ (x : FullSlot V O R T). client_of c x) f;
@@ -138,11 +151,11 @@ module _ {V O R T : Type 0} (kind : Kind V O R T) where
 
   pub starts :
       (key : Key V O R T) (n : ℕ) (ws : List ℕ) (xs : List (Content V O R T)) → IsBuildable key.config key.first.items → key.number < key.config.trustees
-      → n ≡ key.config.clients + key.number → ws ≡ replicate (32 * n + 48) 0 → xs ≡ replicate n no_content
+      → n ≡ key.config.clients + key.number → ws ≡ replicate (32 * n + 48) 0 → xs ≡ replicate n (no_content kind)
       → Delegates kind (opening_by key) (opening_table ws xs (first_view key))
   starts key n ws xs buildable number count words empties =
       subst (λ (z : List ℕ × List (Content V O R T)). Delegates kind (opening_by key) (opening_table z.0 z.1 (first_view key)))
-      (λ j. (sym (words ∙ ap (λ (k : ℕ). replicate (32 * k + 48) 0) count) j, sym (empties ∙ ap (λ (k : ℕ). replicate k (empty_of V O R T)) count) j))
+      (λ j. (sym (words ∙ ap (λ (k : ℕ). replicate (32 * k + 48) 0) count) j, sym (empties ∙ ap (λ (k : ℕ). replicate k (empty_of kind)) count) j))
       (starts_at key buildable number)
 
   module _ (opening : State V O R T) where

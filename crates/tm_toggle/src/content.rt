@@ -1,30 +1,35 @@
 //! What stands in a slot, in arrays that stay there.
-ghost use Rattle.std.specs.Prelude.{◌≡◌, [], reverse};
+ghost use Rattle.std.specs.Prelude.{◌≡◌};
 ghost use Rattle.tm_toggle.specs.Contents.{batch_in, answers_in, HasNoRequests, HasNoAnswers, no_content};
 
-use arrayvec::ArrayVec;
-use tm_batch::{
-    Answer, AnswerBatch, Batch, Completion, MOST_COMPLETIONS, MOST_REQUESTS, MOST_ROOM, Name,
-    Request, Room,
-};
+use crate::rows::{Row, blanks, put, take_out};
+use tm_batch::{Answer, AnswerBatch, Batch, Completion, Name, Request, Room};
 use tm_pair::FitsBatches;
 
-/// How many gifts leave at most, as many as a batch has room for.
-const MOST_LEAVING: usize = MOST_ROOM as usize;
+/// Where the counts of a [`Content`] say how many requests stand there, answers, gifts and completions.
+const REQUESTS: usize = 0;
+
+const ANSWERS: usize = 1;
+
+const GIFTS: usize = 2;
+
+const COMPLETIONS: usize = 3;
 
 /// What stands in a slot: nothing, a batch, or the answers to one.
 ///
 /// A batch is moved in and out element by element, so that only the memory of what is in it changes
-/// hands. Arrays have the last element first, since each goes in and comes out at the end.
+/// hands. The arrays are always full: how many of their elements count is said beside one another, so
+/// that who puts elements in reads nothing that the other side wrote, and who takes them out finds
+/// all counts in one line of memory.
 pub struct Content<S: FitsBatches> {
     pub(crate) front: u64,
     pub(crate) room: Room,
-    pub(crate) requests: ArrayVec<Request<S>, MOST_REQUESTS>,
-    pub(crate) answers: ArrayVec<Answer<S>, MOST_REQUESTS>,
-    pub(crate) gifts: ArrayVec<Name, MOST_LEAVING>,
-    pub(crate) completions: ArrayVec<Completion<S>, MOST_COMPLETIONS>,
-    /// Keeps the next slot 128 bytes away.
-    pub(crate) apart: [u64; 16],
+    pub(crate) requests: Row<Request<S>>,
+    pub(crate) answers: Row<Answer<S>>,
+    pub(crate) gifts: Row<Name>,
+    pub(crate) completions: Row<Completion<S>>,
+    /// Four counts; the others keep the next slot apart.
+    pub(crate) counts: [u64; 16],
 }
 
 /// As a derived one, but proved here: a derived one is proved in each crate that drops a table.
@@ -37,7 +42,7 @@ impl<S: FitsBatches> Drop for Content<S> {
             answers: _,
             gifts: _,
             completions: _,
-            apart: _,
+            counts: _,
         } = self;
     }
 }
@@ -45,16 +50,16 @@ impl<S: FitsBatches> Drop for Content<S> {
 impl<S: FitsBatches> Content<S> {
     /// Nothing.
     pub(crate) fn new() -> Content<S>
-        ensures { result ≡ no_content }
+        ensures { result ≡ no_content S.kind }
     {
         Content {
             front: 0,
             room: Room::new(0),
-            requests: ArrayVec::new(),
-            answers: ArrayVec::new(),
-            gifts: ArrayVec::new(),
-            completions: ArrayVec::new(),
-            apart: [0; 16],
+            requests: blanks(),
+            answers: blanks(),
+            gifts: blanks(),
+            completions: blanks(),
+            counts: [0; 16],
         }
     }
 
@@ -65,10 +70,8 @@ impl<S: FitsBatches> Content<S> {
         ensures batch { batch_in self.new ≡ batch }
         ensures answers { HasNoAnswers self.new }
     {
-        let _ = batch.len();
-        while let Some(request) = batch.requests.pop() {
-            self.requests.push(request);
-        }
+        self.counts[REQUESTS] = batch.len() as u64;
+        put(&mut self.requests, &mut batch.requests);
         self.room = batch.room;
     }
 
@@ -80,10 +83,9 @@ impl<S: FitsBatches> Content<S> {
         ensures answers { HasNoAnswers self.new }
     {
         let mut batch = Batch::new(self.room.gifts());
-        let _ = self.requests.len();
-        while let Some(request) = self.requests.pop() {
-            batch.requests.push(request);
-        }
+        let count = self.counts[REQUESTS] as usize;
+        take_out(&mut self.requests, count, &mut batch.requests);
+        self.counts[REQUESTS] = 0;
         batch
     }
 
@@ -95,20 +97,12 @@ impl<S: FitsBatches> Content<S> {
         ensures requests { HasNoRequests self.new }
     {
         self.front = answers.front;
-        let _ = (
-            answers.answers.len(),
-            answers.gifts.len(),
-            answers.completions.len(),
-        );
-        while let Some(answer) = answers.answers.pop() {
-            self.answers.push(answer);
-        }
-        while let Some(gift) = answers.gifts.pop() {
-            self.gifts.push(gift);
-        }
-        while let Some(completion) = answers.completions.pop() {
-            self.completions.push(completion);
-        }
+        self.counts[ANSWERS] = answers.answers.len() as u64;
+        put(&mut self.answers, &mut answers.answers);
+        self.counts[GIFTS] = answers.gifts.len() as u64;
+        put(&mut self.gifts, &mut answers.gifts);
+        self.counts[COMPLETIONS] = answers.completions.len() as u64;
+        put(&mut self.completions, &mut answers.completions);
     }
 
     /// Takes the answers out.
@@ -119,16 +113,15 @@ impl<S: FitsBatches> Content<S> {
         ensures none { HasNoAnswers self.new }
     {
         let mut answers = AnswerBatch::new(self.front);
-        let _ = (self.answers.len(), self.gifts.len(), self.completions.len());
-        while let Some(answer) = self.answers.pop() {
-            answers.answers.push(answer);
-        }
-        while let Some(gift) = self.gifts.pop() {
-            answers.gifts.push(gift);
-        }
-        while let Some(completion) = self.completions.pop() {
-            answers.completions.push(completion);
-        }
+        let count = self.counts[ANSWERS] as usize;
+        take_out(&mut self.answers, count, &mut answers.answers);
+        self.counts[ANSWERS] = 0;
+        let count = self.counts[GIFTS] as usize;
+        take_out(&mut self.gifts, count, &mut answers.gifts);
+        self.counts[GIFTS] = 0;
+        let count = self.counts[COMPLETIONS] as usize;
+        take_out(&mut self.completions, count, &mut answers.completions);
+        self.counts[COMPLETIONS] = 0;
         answers
     }
 }

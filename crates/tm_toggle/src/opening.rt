@@ -96,7 +96,7 @@ fn make<S: Shareable>(
 
 /// Slots at first.
 fn empties<S: Shareable>(alloc: Global, count: usize) -> Result<Vec<Content<S>>, AllocError>
-    ensures { IfOk result (λ v. v.items ≡ replicate count no_content) }
+    ensures { IfOk result (λ v. v.items ≡ replicate count (no_content S.kind)) }
 {
     let mut slots = Vec::with_capacity(alloc, count)?;
     for _ in 0..count {

@@ -24,7 +24,9 @@ use Rattle.tm_pair.specs.Views.{ClientView}
 use Rattle.tm_pair.specs.Calls.{MaySend}
 use Rattle.tm_pair.specs.Sides.{HasRun, IsGoodClient}
 use Rattle.tm_pair.specs.Theory.{Theory, TheoryLaws}
-use Rattle.tm_trustee.specs.Above.{IsAt, PublishesBye, SaysByeAt, one_if}
+use Rattle.tm_trustee.specs.Above.{IsAt, PublishesBye, one_if}
+use Rattle.tm_trustee.specs.Steps.{SaysByeLane}
+use Rattle.tm_trustee.specs.declared.lane.Lane.{Lane}
 use Rattle.tm_trustee.specs.AboveAt.{MovesUp}
 use Rattle.tm_trustee.specs.contracts.stage.Stage.{the_type}
 use Rattle.tm_trustee.specs.declared.stage.Stage.{Stage}
@@ -41,7 +43,7 @@ is_before Over e = absurd cc
 
 module _ {V O R T : Type 0} where
   -- applies and Byes launch nothing
-  no_launches : (qs : List (Request V O R T)) → AllByRecursion IsOfTrustee qs → launches_in qs ≡ 0
+  pub no_launches : (qs : List (Request V O R T)) → AllByRecursion IsOfTrustee qs → launches_in qs ≡ 0
   no_launches [] all = refl
   no_launches (Apply n op ∷ qs) all = no_launches qs all.1
   no_launches (Bye ∷ qs) all = no_launches qs all.1
@@ -73,8 +75,8 @@ module _ {V O R T : Type 0} where
       let room : length empty < MOST_REQUESTS = subst (λ l. length l < MOST_REQUESTS) (sym none) (lit< tt) in
       on_ok pushed (free room) ok ∙ ap (λ l. l ++ Bye ∷ []) none
 
-  -- a side that is before its Bye has said none, and nothing is out
-  pub before_bye : (stage : Stage) (view : ClientView V O R T) → stage ≡ Before → IsAt stage view → (has_bye view.sent ≡ false) × (view.out ≡ None)
+  -- a side that is before its Bye has said none
+  pub before_bye : (stage : Stage) (view : ClientView V O R T) → stage ≡ Before → IsAt stage view → has_bye view.sent ≡ false
   before_bye Before view e at = at
   before_bye Out view e at = absurd cc
   before_bye Over view e at = absurd cc
@@ -121,24 +123,26 @@ has_said Over view e at = at.0
 module _ {V O R T Table Client Owner : Type 0} (theory : Theory V O R T Table Client Owner) where
   -- where Bye was said before, nothing is done
   pub said_before :
-      (kind : Kind V O R T) → TheoryLaws theory kind → (table : Table) (side : Client) (stage : Stage) → theory.HasClient table side
-      → AllByRecursion IsOfTrustee (theory.client_view side).sent → IsAt stage (theory.client_view side) → true ≡ not (sameb the_type stage Before)
-      → MovesUp theory (SaysByeAt theory (Unit {0})) table table side side stage false
-  said_before kind laws table side stage mine asked at e = record {
-    goes = inr (refl, refl, inl (has_said stage (theory.client_view side) e at));
-    asked = asked;
-    at = at;
-    place = refl;
-    moved = omega arith;
-    keeps = record { same = laws.same_refl table; opening = refl; mine = mine; clients = λ other ne has. has; trustee = λ other has. has };
-  }
+      (kind : Kind V O R T) → TheoryLaws theory kind → (table : Table) (side : Client) (lane : Lane V O R T) → theory.HasClient table side
+      → AllByRecursion IsOfTrustee (theory.client_view side).sent → IsAt lane.stage (theory.client_view side) → true ≡ not (sameb the_type lane.stage Before)
+      → MovesUp theory (SaysByeLane theory) table table side side lane lane false
+  said_before kind laws table side lane mine asked at e =
+      let said = has_said lane.stage (theory.client_view side) e at in
+      record {
+        goes = inr ((λ unsaid. let both : true ≡ false = sym said ∙ unsaid in cc), refl, inr (refl, refl, inl said));
+        asked = asked;
+        at = at;
+        place = refl;
+        moved = omega arith;
+        keeps = record { same = laws.same_refl table; opening = refl; mine = mine; clients = λ other ne has. has; trustee = λ other has. has };
+      }
 
   -- where it is said now, it is out
   pub says_now :
-      (was now : Table) (old new : Client) → AllByRecursion IsOfTrustee (theory.client_view old).sent → has_bye (theory.client_view old).sent ≡ false
-      → (theory.client_view old).out ≡ None → PublishesBye theory was now old new
-      → MovesUp theory (SaysByeAt theory (Unit {0})) was now old new Out true
-  says_now was now old new asked unsaid free says =
+      (was now : Table) (old new : Client) (lane : Lane V O R T) → AllByRecursion IsOfTrustee (theory.client_view old).sent → has_bye (theory.client_view old).sent ≡ false
+      → lane.stage ≡ Before → (theory.client_view old).out ≡ None → PublishesBye theory was now old new
+      → MovesUp theory (SaysByeLane theory) was now old new lane (record lane { stage = Out }) true
+  says_now was now old new lane asked unsaid before free says =
       let (batch, is, room, publishes, did, keeps) = says in
       let view = theory.client_view new in
       let sent : view.sent ≡ (theory.client_view old).sent ++ Bye ∷ [] = publishes.sent ∙ ap (λ b. (theory.client_view old).sent ++ b) is in
@@ -146,7 +150,7 @@ module _ {V O R T Table Client Owner : Type 0} (theory : Theory V O R T Table Cl
       let out : one_if view.out ≡ 1 = ap one_if publishes.out in
       let none : one_if (theory.client_view old).out ≡ 0 = ap one_if free in
       record {
-        goes = inl (tt, unsaid, says);
+        goes = inl (unsaid, before, refl, inl (tt, unsaid, says));
         asked = subst (λ l. AllByRecursion IsOfTrustee l) (sym sent) (asked_more (theory.client_view old).sent (Bye ∷ []) asked (tt, tt));
         at = (
           subst (λ l. has_bye l ≡ true) (sym sent) (bye_said (theory.client_view old).sent),

@@ -10,10 +10,10 @@ use Rattle.std.proofs.lemmas.Option.{slice_get_within}
 use Rattle.tm_model.specs.Orderly.{IsOfTrustee}
 use Rattle.tm_pair.specs.Theory.{Theory, TheoryLaws}
 use Rattle.tm_pair.specs.Views.{ClientView}
-use Rattle.tm_trustee.specs.Above.{IsAt, moves_up, all_moves_up, IsAbove}
-use Rattle.tm_trustee.specs.AboveAt.{MovesUp, MovesAt, EachAt}
+use Rattle.tm_trustee.specs.Above.{IsAt, moves_up, all_moves_up}
+use Rattle.tm_trustee.specs.AboveAt.{MovesUp, MovesAt, EachLane, NeedAll, IsAbove}
 use Rattle.tm_trustee.specs.Tables.{AreAmong, KeepsAbove}
-use Rattle.tm_trustee.specs.declared.stage.Stage.{Stage}
+use Rattle.tm_trustee.specs.declared.lane.Lane.{Lane}
 use Rattle.tm_trustee.proofs.Elements.{set_cases, set_other, same_element, mapped_from, mapped}
 use Rattle.tm_trustee.proofs.Keeping.{keeps_none, keeps_on, keeps_set}
 
@@ -52,31 +52,36 @@ module _ {V O R T : Type 0} where
       ap (λ t. moves_up o n + t) (one_moves olds news i old new eo en) ∙ sym (add_assoc (moves_up o n) (all_moves_up olds news) (moves_up old new))
 
 module _ {V O R T Table Client Owner : Type 0} (theory : Theory V O R T Table Client Owner)
-    (Goes : Table → Table → Client → Client → Type 0) where
+    (Goes : Table → Table → Client → Client → Lane V O R T → Lane V O R T → Type 0) where
   -- the sides below i moved, and the others are as they were
-  pub record MovesUpTo (from i : ℕ) (old new : List Table) (stages stages_new : List Stage) (above above_new : List Client) (moved : ℕ) : Type 0 where
+  pub record MovesUpTo (from i : ℕ) (old new : List Table) (lanes lanes_new : List (Lane V O R T)) (above above_new : List Client) (moved : ℕ) : Type 0 where
     pub as_many : length above_new ≡ length above
     pub tables_many : length new ≡ length old
-    pub below : (k : ℕ) (was now : Table) (before after : Client) → k < i → slice_get old (from + k) ≡ Some was → slice_get new (from + k) ≡ Some now
-        → slice_get above k ≡ Some before → slice_get above_new k ≡ Some after → Goes was now before after
+    pub lanes_many : length lanes_new ≡ length lanes
+    pub below : (k : ℕ) (was now : Table) (before after : Client) (lane becomes : Lane V O R T) → k < i → slice_get old (from + k) ≡ Some was
+        → slice_get new (from + k) ≡ Some now → slice_get above k ≡ Some before → slice_get above_new k ≡ Some after
+        → slice_get lanes k ≡ Some lane → slice_get lanes_new k ≡ Some becomes → Goes was now before after lane becomes
     pub rest : (k : ℕ) → i ≤ k → slice_get above_new k ≡ slice_get above k
+    pub lanes_rest : (k : ℕ) → i ≤ k → slice_get lanes_new k ≡ slice_get lanes k
     pub tables_rest : (k : ℕ) → i ≤ k → slice_get new (from + k) ≡ slice_get old (from + k)
     pub counts : moved ≡ all_moves_up (map theory.client_view above) (map theory.client_view above_new)
     pub most : moved ≤ i
-    pub is_above : (place : ℕ) → IsAbove place stages (map theory.client_view above) → IsAbove place stages_new (map theory.client_view above_new)
+    pub is_above : (place : ℕ) → IsAbove place lanes (map theory.client_view above) → IsAbove place lanes_new (map theory.client_view above_new)
     pub among : AreAmong theory new from above_new
-    pub keeps : (place : ℕ) → IsAbove place stages (map theory.client_view above) → KeepsAbove theory old new from place
+    pub keeps : (place : ℕ) → IsAbove place lanes (map theory.client_view above) → KeepsAbove theory old new from place
 
 module _ {V O R T Table Client Owner : Type 0} (theory : Theory V O R T Table Client Owner)
-    (Goes : Table → Table → Client → Client → Type 0) (kind : Kind V O R T) (laws : TheoryLaws theory kind) where
+    (Goes : Table → Table → Client → Client → Lane V O R T → Lane V O R T → Type 0) (kind : Kind V O R T) (laws : TheoryLaws theory kind) where
   pub none_moved :
-      (from : ℕ) (tables : List Table) (stages : List Stage) (above : List Client) → AreAmong theory tables from above
-      → MovesUpTo theory Goes from 0 tables tables stages stages above above 0
-  none_moved from tables stages above among = record {
+      (from : ℕ) (tables : List Table) (lanes : List (Lane V O R T)) (above : List Client) → AreAmong theory tables from above
+      → MovesUpTo theory Goes from 0 tables tables lanes lanes above above 0
+  none_moved from tables lanes above among = record {
     as_many = refl;
     tables_many = refl;
-    below = λ k was now before after lt ew en eb ea. absurd (omega arith);
+    lanes_many = refl;
+    below = λ k was now before after lane becomes lt ew en eb ea el em. absurd (omega arith);
     rest = λ k le. refl;
+    lanes_rest = λ k le. refl;
     tables_rest = λ k le. refl;
     counts = sym (all_stay (map theory.client_view above));
     most = omega arith;
@@ -86,19 +91,19 @@ module _ {V O R T Table Client Owner : Type 0} (theory : Theory V O R T Table Cl
   }
 
   module _
-      (from i : ℕ) (old mid : List Table) (stages stages_mid : List Stage) (above above_mid : List Client) (moved : ℕ)
-      (done : MovesUpTo theory Goes from i old mid stages stages_mid above above_mid moved)
-      (was becomes : Table) (before after : Client) (stage : Stage) (answer : Bool)
-      (of_table : slice_get mid (from + i) ≡ Some was) (of_side : slice_get above_mid i ≡ Some before)
-      (moves : MovesUp theory Goes was becomes before after stage answer) where
+      (from i : ℕ) (old mid : List Table) (lanes lanes_mid : List (Lane V O R T)) (above above_mid : List Client) (moved : ℕ)
+      (done : MovesUpTo theory Goes from i old mid lanes lanes_mid above above_mid moved)
+      (was becomes : Table) (before after : Client) (lane lane_new : Lane V O R T) (answer : Bool)
+      (of_table : slice_get mid (from + i) ≡ Some was) (of_side : slice_get above_mid i ≡ Some before) (of_lane : slice_get lanes_mid i ≡ Some lane)
+      (moves : MovesUp theory Goes was becomes before after lane lane_new answer) where
     abbrev views : List (ClientView V O R T)
     views = map theory.client_view above
 
     abbrev tables_after : List Table
     tables_after = slice_set mid (from + i) becomes
 
-    abbrev stages_after : List Stage
-    stages_after = slice_set stages_mid i stage
+    abbrev lanes_after : List (Lane V O R T)
+    lanes_after = slice_set lanes_mid i lane_new
 
     abbrev above_after : List Client
     above_after = slice_set above_mid i after
@@ -106,24 +111,32 @@ module _ {V O R T Table Client Owner : Type 0} (theory : Theory V O R T Table Cl
     first_of_side : slice_get above i ≡ Some before
     first_of_side = sym (done.rest i (omega arith)) ∙ of_side
 
+    first_of_lane : slice_get lanes i ≡ Some lane
+    first_of_lane = sym (done.lanes_rest i (omega arith)) ∙ of_lane
+
     first_of_table : slice_get old (from + i) ≡ Some was
     first_of_table = sym (done.tables_rest i (omega arith)) ∙ of_table
 
     below_at :
-        (k : ℕ) (x y : Table) (b a : Client) → k < i + 1 → slice_get old (from + k) ≡ Some x
+        (k : ℕ) (x y : Table) (b a : Client) (l m : Lane V O R T) → k < i + 1 → slice_get old (from + k) ≡ Some x
         → ((from + k ≡ from + i) × (y ≡ becomes)) ⊎ ((from + k ≢ from + i) × (slice_get mid (from + k) ≡ Some y))
         → slice_get above k ≡ Some b → ((k ≡ i) × (a ≡ after)) ⊎ ((k ≢ i) × (slice_get above_mid k ≡ Some a))
-        → Goes x y b a
-    below_at k x y b a lt ex (inl t) eb (inl h) =
+        → slice_get lanes k ≡ Some l → ((k ≡ i) × (m ≡ lane_new)) ⊎ ((k ≢ i) × (slice_get lanes_mid k ≡ Some m))
+        → Goes x y b a l m
+    below_at k x y b a l m lt ex (inl t) eb (inl h) el (inl n) =
         let same : b ≡ before = same_element above i before b first_of_side (subst (λ n. slice_get above n ≡ Some b) h.0 eb) in
         let table : x ≡ was = same_element old (from + i) was x first_of_table (subst (λ n. slice_get old n ≡ Some x) t.0 ex) in
-        subst (λ z. Goes z y b a) (sym table)
-        (subst (λ z. Goes was z b a) (sym t.1)
-        (subst (λ z. Goes was becomes z a) (sym same)
-        (subst (λ z. Goes was becomes before z) (sym h.1) moves.goes)))
-    below_at k x y b a lt ex (inl t) eb (inr h) = let e : from + k ≡ from + i = t.0 in absurd (h.0 (omega arith))
-    below_at k x y b a lt ex (inr t) eb (inl h) = absurd (t.0 (ap (λ n. from + n) h.0))
-    below_at k x y b a lt ex (inr t) eb (inr h) = let ne : k ≢ i = h.0 in done.below k x y b a (omega arith) ex t.1 eb h.1
+        let mine : l ≡ lane = same_element lanes i lane l first_of_lane (subst (λ n. slice_get lanes n ≡ Some l) h.0 el) in
+        subst (λ z. Goes z y b a l m) (sym table)
+        (subst (λ z. Goes was z b a l m) (sym t.1)
+        (subst (λ z. Goes was becomes z a l m) (sym same)
+        (subst (λ z. Goes was becomes before z l m) (sym h.1)
+        (subst (λ z. Goes was becomes before after z m) (sym mine) (subst (λ z. Goes was becomes before after lane z) (sym n.1) moves.goes)))))
+    below_at k x y b a l m lt ex (inl t) eb (inl h) el (inr n) = absurd (n.0 h.0)
+    below_at k x y b a l m lt ex (inl t) eb (inr h) el n = let e : from + k ≡ from + i = t.0 in absurd (h.0 (omega arith))
+    below_at k x y b a l m lt ex (inr t) eb (inl h) el n = absurd (t.0 (ap (λ n. from + n) h.0))
+    below_at k x y b a l m lt ex (inr t) eb (inr h) el (inl n) = absurd (h.0 n.0)
+    below_at k x y b a l m lt ex (inr t) eb (inr h) el (inr n) = let ne : k ≢ i = h.0 in done.below k x y b a l m (omega arith) ex t.1 eb h.1 el n.1
 
     counts_at : moved + cond answer 1 0 ≡ all_moves_up views (map theory.client_view above_after)
     counts_at =
@@ -133,8 +146,8 @@ module _ {V O R T Table Client Owner : Type 0} (theory : Theory V O R T Table Cl
         (mapped theory.client_view above_mid i before of_side))
         ∙ ap (λ l. all_moves_up views l) (sym (map-set theory.client_view above_mid i after))
 
-    module _ (place : ℕ) (is : IsAbove place stages views) where
-      mid_above : IsAbove place stages_mid (map theory.client_view above_mid)
+    module _ (place : ℕ) (is : IsAbove place lanes views) where
+      mid_above : IsAbove place lanes_mid (map theory.client_view above_mid)
       mid_above = done.is_above place is
 
       was_placed : (theory.client_view before).place ≡ place
@@ -152,18 +165,18 @@ module _ {V O R T Table Client Owner : Type 0} (theory : Theory V O R T Table Cl
       asked_at k a (inr h) = mid_above.asked k (theory.client_view a) (mapped theory.client_view above_mid k a h.1)
 
       stages_at :
-          (k : ℕ) (s : Stage) (a : Client) → ((k ≡ i) × (s ≡ stage)) ⊎ ((k ≢ i) × (slice_get stages_mid k ≡ Some s))
-          → ((k ≡ i) × (a ≡ after)) ⊎ ((k ≢ i) × (slice_get above_mid k ≡ Some a)) → IsAt s (theory.client_view a)
-      stages_at k s a (inl h) (inl m) =
-          subst (λ x. IsAt x (theory.client_view a)) (sym h.1) (subst (λ x. IsAt stage (theory.client_view x)) (sym m.1) moves.at)
-      stages_at k s a (inl h) (inr m) = absurd (m.0 h.0)
-      stages_at k s a (inr h) (inl m) = absurd (h.0 m.0)
-      stages_at k s a (inr h) (inr m) = mid_above.stages k s (theory.client_view a) h.1 (mapped theory.client_view above_mid k a m.1)
+          (k : ℕ) (l : Lane V O R T) (a : Client) → ((k ≡ i) × (l ≡ lane_new)) ⊎ ((k ≢ i) × (slice_get lanes_mid k ≡ Some l))
+          → ((k ≡ i) × (a ≡ after)) ⊎ ((k ≢ i) × (slice_get above_mid k ≡ Some a)) → IsAt l.stage (theory.client_view a)
+      stages_at k l a (inl h) (inl m) =
+          subst (λ x. IsAt x.stage (theory.client_view a)) (sym h.1) (subst (λ x. IsAt lane_new.stage (theory.client_view x)) (sym m.1) moves.at)
+      stages_at k l a (inl h) (inr m) = absurd (m.0 h.0)
+      stages_at k l a (inr h) (inl m) = absurd (h.0 m.0)
+      stages_at k l a (inr h) (inr m) = mid_above.stages k l (theory.client_view a) h.1 (mapped theory.client_view above_mid k a m.1)
 
-      above_at : IsAbove place stages_after (map theory.client_view above_after)
+      above_at : IsAbove place lanes_after (map theory.client_view above_after)
       above_at = record {
         as_many =
-            length-set stages_mid i stage ∙ mid_above.as_many ∙ length-map above_mid theory.client_view
+            length-set lanes_mid i lane_new ∙ mid_above.as_many ∙ length-map above_mid theory.client_view
             ∙ sym (length-map above_after theory.client_view ∙ length-set above_mid i after);
         places = λ k up e.
             let (a, ea, is_a) = mapped_from theory.client_view above_after k up e in
@@ -173,7 +186,7 @@ module _ {V O R T Table Client Owner : Type 0} (theory : Theory V O R T Table Cl
             subst (λ v. AllByRecursion IsOfTrustee v.sent) (sym is_a) (asked_at k a (set_cases above_mid i k after a ea));
         stages = λ k s up es e.
             let (a, ea, is_a) = mapped_from theory.client_view above_after k up e in
-            subst (λ v. IsAt s v) (sym is_a) (stages_at k s a (set_cases stages_mid i k stage s es) (set_cases above_mid i k after a ea));
+            subst (λ v. IsAt s.stage v) (sym is_a) (stages_at k s a (set_cases lanes_mid i k lane_new s es) (set_cases above_mid i k after a ea));
       }
 
       keeps_at : KeepsAbove theory old tables_after from place
@@ -190,12 +203,15 @@ module _ {V O R T Table Client Owner : Type 0} (theory : Theory V O R T Table Cl
     among_at k y a (inr h) (inl m) = absurd (h.0 (ap (λ n. from + n) m.0))
     among_at k y a (inr h) (inr m) = done.among.mine k y a h.1 m.1
 
-    one_more_moved : MovesUpTo theory Goes from (i + 1) old tables_after stages stages_after above above_after (moved + cond answer 1 0)
+    one_more_moved : MovesUpTo theory Goes from (i + 1) old tables_after lanes lanes_after above above_after (moved + cond answer 1 0)
     one_more_moved = record {
       as_many = length-set above_mid i after ∙ done.as_many;
       tables_many = length-set mid (from + i) becomes ∙ done.tables_many;
-      below = λ k x y b a lt ex ey eb ea.
-          below_at k x y b a lt ex (set_cases mid (from + i) (from + k) becomes y ey) eb (set_cases above_mid i k after a ea);
+      lanes_many = length-set lanes_mid i lane_new ∙ done.lanes_many;
+      below = λ k x y b a l m lt ex ey eb ea el em.
+          below_at k x y b a l m lt ex (set_cases mid (from + i) (from + k) becomes y ey) eb (set_cases above_mid i k after a ea) el
+          (set_cases lanes_mid i k lane_new m em);
+      lanes_rest = λ k le. let ne : k ≢ i = λ e. absurd (omega arith) in set_other lanes_mid i k lane_new ne ∙ done.lanes_rest k (omega arith);
       rest = λ k le. let ne : k ≢ i = λ e. absurd (omega arith) in set_other above_mid i k after ne ∙ done.rest k (omega arith);
       tables_rest = λ k le.
           let ne : from + k ≢ from + i = λ e. absurd (omega (arith, le, e)) in
@@ -212,21 +228,30 @@ module _ {V O R T Table Client Owner : Type 0} (theory : Theory V O R T Table Cl
 
   -- a move at the next side
   pub next_moved :
-      (from i : ℕ) (old mid new : List Table) (stages stages_mid stages_new : List Stage) (above above_mid above_new : List Client) (moved more : ℕ)
+      (from i : ℕ) (old mid new : List Table) (lanes lanes_mid lanes_new : List (Lane V O R T)) (above above_mid above_new : List Client) (moved more : ℕ)
       (answer : Bool)
-      → MovesUpTo theory Goes from i old mid stages stages_mid above above_mid moved
-      → MovesAt theory Goes (from + i) i mid new stages_mid stages_new above_mid above_new answer
-      → more ≡ moved + cond answer 1 0 → MovesUpTo theory Goes from (i + 1) old new stages stages_new above above_new more
-  next_moved from i old mid new stages stages_mid stages_new above above_mid above_new moved more answer done m is =
-      let at = one_more_moved from i old mid stages stages_mid above above_mid moved done m.was m.becomes m.before m.after m.stage answer m.of_table m.of_side m.moves in
-      subst (λ n. MovesUpTo theory Goes from (i + 1) old new stages stages_new above above_new n) (sym is)
-      (subst (λ l. MovesUpTo theory Goes from (i + 1) old l stages stages_new above above_new (moved + cond answer 1 0)) (sym m.tables)
-      (subst (λ l. MovesUpTo theory Goes from (i + 1) old (slice_set mid (from + i) m.becomes) stages l above above_new (moved + cond answer 1 0)) (sym m.stages_are)
-      (subst (λ l. MovesUpTo theory Goes from (i + 1) old (slice_set mid (from + i) m.becomes) stages (slice_set stages_mid i m.stage) above l (moved + cond answer 1 0)) (sym m.sides) at)))
+      → MovesUpTo theory Goes from i old mid lanes lanes_mid above above_mid moved
+      → MovesAt theory Goes (from + i) i mid new lanes_mid lanes_new above_mid above_new answer
+      → more ≡ moved + cond answer 1 0 → MovesUpTo theory Goes from (i + 1) old new lanes lanes_new above above_new more
+  next_moved from i old mid new lanes lanes_mid lanes_new above above_mid above_new moved more answer done m is =
+      let at = one_more_moved from i old mid lanes lanes_mid above above_mid moved done m.was m.becomes m.before m.after m.lane m.lane_new answer m.of_table m.of_side m.of_lane m.moves in
+      subst (λ n. MovesUpTo theory Goes from (i + 1) old new lanes lanes_new above above_new n) (sym is)
+      (subst (λ l. MovesUpTo theory Goes from (i + 1) old l lanes lanes_new above above_new (moved + cond answer 1 0)) (sym m.tables)
+      (subst (λ l. MovesUpTo theory Goes from (i + 1) old (slice_set mid (from + i) m.becomes) lanes l above above_new (moved + cond answer 1 0)) (sym m.lanes_are)
+      (subst (λ l. MovesUpTo theory Goes from (i + 1) old (slice_set mid (from + i) m.becomes) lanes (slice_set lanes_mid i m.lane_new) above l (moved + cond answer 1 0)) (sym m.sides) at)))
 
   -- each side moved once all have
   pub all_moved :
-      (from i : ℕ) (old new : List Table) (stages stages_new : List Stage) (above above_new : List Client) (moved : ℕ)
-      → MovesUpTo theory Goes from i old new stages stages_new above above_new moved → i ≡ length above → EachAt Goes from old new above above_new
-  all_moved from i old new stages stages_new above above_new moved done all = λ k was now before after ew en eb ea.
-      done.below k was now before after (subst (λ n. k < n) (sym all) (slice_get_within above k before eb)) ew en eb ea
+      (from i : ℕ) (old new : List Table) (lanes lanes_new : List (Lane V O R T)) (above above_new : List Client) (moved : ℕ)
+      → MovesUpTo theory Goes from i old new lanes lanes_new above above_new moved → i ≡ length above → EachLane Goes from old new above above_new lanes lanes_new
+  all_moved from i old new lanes lanes_new above above_new moved done all = λ k was now before after lane becomes ew en eb ea el em.
+      done.below k was now before after lane becomes (subst (λ n. k < n) (sym all) (slice_get_within above k before eb)) ew en eb ea el em
+
+  -- what a step needs at the next side is as it was needed at first
+  pub needs_next :
+      (Needs : Table → Client → Lane V O R T → Type 0) (from i : ℕ) (old mid : List Table) (lanes lanes_mid : List (Lane V O R T)) (above above_mid : List Client) (moved : ℕ)
+      → MovesUpTo theory Goes from i old mid lanes lanes_mid above above_mid moved → NeedAll Needs from old above lanes
+      → (table : Table) (seat : Client) (lane : Lane V O R T) → slice_get mid (from + i) ≡ Some table → slice_get above_mid i ≡ Some seat
+      → slice_get lanes_mid i ≡ Some lane → Needs table seat lane
+  needs_next Needs from i old mid lanes lanes_mid above above_mid moved done needs table seat lane et es el =
+      needs i table seat lane (sym (done.tables_rest i (omega arith)) ∙ et) (sym (done.rest i (omega arith)) ∙ es) (sym (done.lanes_rest i (omega arith)) ∙ el)

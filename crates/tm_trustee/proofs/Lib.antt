@@ -1,4 +1,11 @@
+mod Cases
 pub mod Elements
+pub mod Among
+pub mod Works
+pub mod Runs
+pub mod Awaited
+pub mod Fronts
+pub mod Replied
 pub mod Keeping
 pub mod AboveSteps
 pub mod AboveBye
@@ -11,3 +18,22 @@ pub mod TurningMoved
 pub mod TurningLooks
 pub mod TurningOwn
 pub mod TurningParts
+pub mod LaneKeeps
+pub mod LaneRuns
+pub mod Idle
+pub mod AboveAsks
+pub mod Exchanging
+pub mod TurningLanes
+pub mod HeldAbove
+pub mod TurningAll
+pub mod TurningIdle
+pub mod Tying
+pub mod LaneNews
+pub mod Bridging
+pub mod LaneSteps
+pub mod GoingOn
+pub mod HeldCounts
+pub mod GoingLoops
+pub mod Noting
+pub mod Telling
+pub mod TurningResumes

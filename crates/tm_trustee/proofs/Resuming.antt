@@ -43,7 +43,7 @@ module _ {V O R T : Type 0} where
   pub same_ran : (c : ℕ) (log es : List (Entry V O R T)) → AreResumes es → ran c (log ++ es) ≡ ran c log
   same_ran c log es only = ran-append mark_of c log es ∙ ap (λ l. ran c log ++ l) (resumes_run c es only) ∙ append-nil (ran c log)
 
-  both_resume : (es fs : List (Entry V O R T)) → AreResumes es → AreResumes fs → AreResumes (es ++ fs)
+  pub both_resume : (es fs : List (Entry V O R T)) → AreResumes es → AreResumes fs → AreResumes (es ++ fs)
   both_resume [] fs first then = then
   both_resume (Resume id ticket event next ∷ es) fs first then = both_resume es fs first then
   both_resume (By d k q a ∷ es) fs first then = absurd first
@@ -101,7 +101,7 @@ module _ {V O R T : Type 0} where
 
     -- a batch in hand may be run behind what was resumed
     pub in_hand_may_run :
-        (view : TrusteeView V O R T) (since : List (Entry V O R T)) (state : StateView V) (c : ℕ) (batch : Batch V O R T)
+        (view : TrusteeView V O R T) (since : List (Entry V O R T)) (state : StateView V O R T) (c : ℕ) (batch : Batch V O R T)
         → IsGoodTrustee kind opening view → IsCurrent kind opening view.log since state → c < place_count opening.setup
         → hand_of view c ≡ Some (record { requests = batch.requests.items; room = batch.room })
         → MayRunBatch kind opening (view.log ++ since) c batch.requests.items state
@@ -131,7 +131,7 @@ module _ {V O R T : Type 0} where
         last = subst (λ l. EndsIn (batches kind opening c l) a) grown grows.last;
       }
 
-    module _ (view : TrusteeView V O R T) (since : List (Entry V O R T)) (old new : StateView V) (c : ℕ) (batch : Batch V O R T) (a : AnswerBatch V O R T)
+    module _ (view : TrusteeView V O R T) (since : List (Entry V O R T)) (old new : StateView V O R T) (c : ℕ) (batch : Batch V O R T) (a : AnswerBatch V O R T)
         (only : AreResumes since) (is : hand_of view c ≡ Some (record { requests = batch.requests.items; room = batch.room }))
         (may : MayRunBatch kind opening (view.log ++ since) c batch.requests.items old)
         (ran_it : HasRunIt kind c batch.requests.items batch.room a old new) where
@@ -176,7 +176,7 @@ module _ {V O R T : Type 0} where
 
   -- where the list of what was resumed is a new one
   pub emptied_current :
-      (kind : Kind V O R T) (opening : State V O R T) (log since : List (Entry V O R T)) (state : StateView V) → since ≡ []
+      (kind : Kind V O R T) (opening : State V O R T) (log since : List (Entry V O R T)) (state : StateView V O R T) → since ≡ []
       → IsCurrent kind opening log [] state → IsCurrent kind opening log since state
   emptied_current kind opening log since state none is = subst (λ l. IsCurrent kind opening log l state) (sym none) is
 
@@ -185,7 +185,7 @@ module _ {V O R T : Type 0} where
 
   -- where the log is one that is the same, and the opening state
   pub current_as :
-      (kind : Kind V O R T) (a b : State V O R T) (log same since : List (Entry V O R T)) (state : StateView V) → b ≡ a → same ≡ log
+      (kind : Kind V O R T) (a b : State V O R T) (log same since : List (Entry V O R T)) (state : StateView V O R T) → b ≡ a → same ≡ log
       → IsCurrent kind a log since state → IsCurrent kind b same since state
   current_as kind a b log same since state opens is current =
       subst (λ s. IsCurrent kind s same since state) (sym opens) (subst (λ l. IsCurrent kind a l since state) (sym is) current)
@@ -204,7 +204,7 @@ module _ {V O R T : Type 0} where
 
   -- how many requests were run is how many are in the log
   pub run_behind :
-      (kind : Kind V O R T) (opening : State V O R T) (log since : List (Entry V O R T)) (state : StateView V) → IsCurrent kind opening log since state
+      (kind : Kind V O R T) (opening : State V O R T) (log since : List (Entry V O R T)) (state : StateView V O R T) → IsCurrent kind opening log since state
       → state.run ≡ min (requests_in log) (2 ^ 64 - 1)
   run_behind kind opening log since state current =
       current.represents.run ∙ ap (λ n. min n (2 ^ 64 - 1)) (requests_in-resumes log since current.only)

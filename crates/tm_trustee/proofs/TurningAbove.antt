@@ -10,8 +10,9 @@ use Rattle.tm_pair.specs.Calls.{Publishes, Collects}
 use Rattle.tm_pair.specs.Theory.{Theory}
 use Rattle.tm_pair.specs.declared.table.Collected.{Collected}
 use Rattle.tm_pair.specs.declared.table.Collected.TheVariants.{Answers, Pending, Idle}
-use Rattle.tm_trustee.specs.Above.{one_if, published, IsAt, LooksUp, SaysBye, GoesUp, LooksUpAt, SaysByeAt, Each, moves_up, all_moves_up, IsAbove}
-use Rattle.tm_trustee.specs.AboveAt.{EachAt}
+use Rattle.tm_trustee.specs.Above.{one_if, published, IsAt, Exchanges, SaysBye, GoesUp, ExchangesAt, SaysByeAt, Each, moves_up, all_moves_up}
+use Rattle.tm_trustee.specs.AboveAt.{EachAt, IsAbove}
+use Rattle.tm_trustee.specs.declared.lane.Lane.{Lane}
 use Rattle.tm_trustee.specs.Turn.{Tells}
 use Rattle.tm_trustee.specs.declared.stage.Stage.{Stage}
 use Rattle.tm_trustee.specs.declared.stage.Stage.TheVariants.{Before, Out, Over}
@@ -44,6 +45,15 @@ module _ {V O R T : Type 0} where
       let then = ap one_if gets.out in
       record { published = omega (arith, got, first, then); got = omega (arith, got) }
 
+  exchanged_grows : (waits : List (ℕ × O)) (old new : ClientView V O R T) → Exchanges waits old new → Grows old new
+  exchanged_grows waits old new (inl (out, (found, collects))) = collected_grows found old new collects
+  exchanged_grows waits old new (inr (inl (free, some, (b, all, asked, publishes)))) =
+      let got : length new.got ≡ length old.got = ap (λ l. length l) publishes.got in
+      let first = one_at_most old.out in
+      let then = ap one_if publishes.out in
+      record { published = omega (arith, got, first, then); got = omega (arith, got) }
+  exchanged_grows waits old new (inr (inr (free, none, same))) = subst (λ view. Grows old view) (sym same) (record { published = omega arith; got = omega arith })
+
   bye_grows : (all : Type 0) (old new : ClientView V O R T) → SaysBye all old new → Grows old new
   bye_grows all old new (inl said) =
       let got : length new.got ≡ length old.got = ap (λ l. length l) said.2.got in
@@ -57,30 +67,31 @@ module _ {V O R T : Type 0} where
 
   -- both parts together, at each side
   pub goes_up :
-      (all : Type 0) (olds mids news : List (ClientView V O R T)) → Each LooksUp olds mids → Each (SaysBye all) mids news
-      → Each (GoesUp all) olds news
-  goes_up all [] [] [] looks says = tt
-  goes_up all [] [] (new ∷ news) looks says = absurd says
-  goes_up all [] (mid ∷ mids) news looks says = absurd looks
-  goes_up all (old ∷ olds) [] news looks says = absurd looks
-  goes_up all (old ∷ olds) (mid ∷ mids) [] looks says = absurd says
-  goes_up all (old ∷ olds) (mid ∷ mids) (new ∷ news) looks says =
-      ((mid, looks.0, says.0), goes_up all olds mids news looks.1 says.1)
+      (waits : ℕ → ClientView V O R T → List (ℕ × O)) (all : Type 0) (u : ℕ) (olds mids news : List (ClientView V O R T))
+      → Each (λ n from to. Exchanges (waits n from) from to) u olds mids → Each (λ n from to. SaysBye all from to) u mids news
+      → Each (λ n from to. GoesUp (waits n from) all from to) u olds news
+  goes_up waits all u [] [] [] looks says = tt
+  goes_up waits all u [] [] (new ∷ news) looks says = absurd says
+  goes_up waits all u [] (mid ∷ mids) news looks says = absurd looks
+  goes_up waits all u (old ∷ olds) [] news looks says = absurd looks
+  goes_up waits all u (old ∷ olds) (mid ∷ mids) [] looks says = absurd says
+  goes_up waits all u (old ∷ olds) (mid ∷ mids) (new ∷ news) looks says =
+      ((mid, looks.0, says.0), goes_up waits all (u + 1) olds mids news looks.1 says.1)
 
   -- and what they moved
   pub all_moves_join :
-      (all : Type 0) (olds mids news : List (ClientView V O R T)) → Each LooksUp olds mids → Each (SaysBye all) mids news
+      (waits : ℕ → ClientView V O R T → List (ℕ × O)) (all : Type 0) (u : ℕ) (olds mids news : List (ClientView V O R T))
+      → Each (λ n from to. Exchanges (waits n from) from to) u olds mids → Each (λ n from to. SaysBye all from to) u mids news
       → all_moves_up olds mids + all_moves_up mids news ≡ all_moves_up olds news
-  all_moves_join all [] [] [] looks says = refl
-  all_moves_join all [] [] (new ∷ news) looks says = absurd says
-  all_moves_join all [] (mid ∷ mids) news looks says = absurd looks
-  all_moves_join all (old ∷ olds) [] news looks says = absurd looks
-  all_moves_join all (old ∷ olds) (mid ∷ mids) [] looks says = absurd says
-  all_moves_join all (old ∷ olds) (mid ∷ mids) (new ∷ news) looks says =
-      let (found, collects) = looks.0 in
+  all_moves_join waits all u [] [] [] looks says = refl
+  all_moves_join waits all u [] [] (new ∷ news) looks says = absurd says
+  all_moves_join waits all u [] (mid ∷ mids) news looks says = absurd looks
+  all_moves_join waits all u (old ∷ olds) [] news looks says = absurd looks
+  all_moves_join waits all u (old ∷ olds) (mid ∷ mids) [] looks says = absurd says
+  all_moves_join waits all u (old ∷ olds) (mid ∷ mids) (new ∷ news) looks says =
       let here : moves_up old mid + moves_up mid new ≡ moves_up old new =
-      moves_join old mid new (collected_grows found old mid collects) (bye_grows all mid new says.0) in
-      let rest : all_moves_up olds mids + all_moves_up mids news ≡ all_moves_up olds news = all_moves_join all olds mids news looks.1 says.1 in
+      moves_join old mid new (exchanged_grows (waits u old) old mid looks.0) (bye_grows all mid new says.0) in
+      let rest : all_moves_up olds mids + all_moves_up mids news ≡ all_moves_up olds news = all_moves_join waits all (u + 1) olds mids news looks.1 says.1 in
       omega (arith, here, rest)
 
   -- where one condition stands for another
@@ -90,11 +101,12 @@ module _ {V O R T : Type 0} where
   says_as a b to from old new (inr (same, inr fails)) = inr (same, inr (λ holds. fails (from holds)))
 
   pub all_say_as :
-      (a b : Type 0) → (a → b) → (b → a) → (olds news : List (ClientView V O R T)) → Each (SaysBye a) olds news → Each (SaysBye b) olds news
-  all_say_as a b to from [] [] says = tt
-  all_say_as a b to from [] (new ∷ news) says = absurd says
-  all_say_as a b to from (old ∷ olds) [] says = absurd says
-  all_say_as a b to from (old ∷ olds) (new ∷ news) says = (says_as a b to from old new says.0, all_say_as a b to from olds news says.1)
+      (a b : Type 0) → (a → b) → (b → a) → (u : ℕ) (olds news : List (ClientView V O R T)) → Each (λ n from to. SaysBye a from to) u olds news
+      → Each (λ n from to. SaysBye b from to) u olds news
+  all_say_as a b to from u [] [] says = tt
+  all_say_as a b to from u [] (new ∷ news) says = absurd says
+  all_say_as a b to from u (old ∷ olds) [] says = absurd says
+  all_say_as a b to from u (old ∷ olds) (new ∷ news) says = (says_as a b to from old new says.0, all_say_as a b to from (u + 1) olds news says.1)
 
   pub none_moves : (views : List (ClientView V O R T)) → all_moves_up views views ≡ 0
   none_moves [] = refl
@@ -103,25 +115,26 @@ module _ {V O R T : Type 0} where
 
   -- a side that is over is noted as such
   only_over : (stage : Stage) (view : ClientView V O R T) → IsAt stage view → IsAt Over view → stage ≡ Over
-  only_over Before view at over = let e : false ≡ true = sym at.0 ∙ over.0 in absurd cc
+  only_over Before view at over = let e : false ≡ true = sym at ∙ over.0 in absurd cc
   only_over Out view at over = let none : IsSome {T = BatchView V O R T} None = subst (λ (o : Option (BatchView V O R T)). IsSome o) over.1 at.1 in absurd cc
   only_over Over view at over = refl
 
   pub over_exactly :
-      (place : ℕ) (at : List Stage) (ups : List (ClientView V O R T)) → IsAbove place at ups
-      → All (λ stage. stage ≡ Over) at ↔ All (IsAt Over) ups
-  over_exactly place at ups above = (
+      (place : ℕ) (lanes : List (Lane V O R T)) (ups : List (ClientView V O R T)) → IsAbove place lanes ups
+      → All (λ lane. lane.stage ≡ Over) lanes ↔ All (IsAt Over) ups
+  over_exactly place lanes ups above = (
     λ over k d lt.
         let there : slice_get ups k ≡ Some (slice_index_or ups k d) = slice_get-get_or ups k d lt in
-        let within : k < length at = subst (λ n. k < n) (sym above.as_many) lt in
-        let noted : slice_get at k ≡ Some (slice_index_or at k Over) = slice_get-get_or at k Over within in
-        subst (λ stage. IsAt stage (slice_index_or ups k d)) (over k Over within) (above.stages k _ _ noted there),
+        let within : k < length lanes = subst (λ n. k < n) (sym above.as_many) lt in
+        let (lane, noted) = element_at lanes k within in
+        let last : lane.stage ≡ Over = subst (λ (l : Lane V O R T). l.stage ≡ Over) (get_or_from_slice_get lanes k lane lane noted) (over k lane within) in
+        subst (λ stage. IsAt stage (slice_index_or ups k d)) last (above.stages k lane _ noted there),
     λ over k d lt.
         let within : k < length ups = subst (λ n. k < n) above.as_many lt in
-        let noted : slice_get at k ≡ Some (slice_index_or at k d) = slice_get-get_or at k d lt in
+        let noted : slice_get lanes k ≡ Some (slice_index_or lanes k d) = slice_get-get_or lanes k d lt in
         let (up, there) = element_at ups k within in
         let last : IsAt Over up = subst (λ view. IsAt Over view) (get_or_from_slice_get ups k up up there) (over k up within) in
-        only_over (slice_index_or at k d) up (above.stages k _ up noted there) last,
+        only_over (slice_index_or lanes k d).stage up (above.stages k _ up noted there) last,
   )
 
 -- what a turn says, where one condition stands for another
@@ -131,37 +144,53 @@ tells_as Quiet a b moved to from tells = (λ holds. tells.0 (from holds), tells.
 tells_as (Moved n) a b moved to from tells = (λ holds. tells.0 (from holds), tells.1, tells.2)
 
 module _ {V O R T Table Client Owner : Type 0} (theory : Theory V O R T Table Client Owner) where
-  module _ (Goes : Table → Table → Client → Client → Type 0) (Sees : ClientView V O R T → ClientView V O R T → Type 0)
-      (sees : (was now : Table) (before after : Client) → Goes was now before after → Sees (theory.client_view before) (theory.client_view after)) where
+  module _ (Goes : ℕ → Table → Table → Client → Client → Type 0) (Sees : ℕ → ClientView V O R T → ClientView V O R T → Type 0)
+      (sees : (n : ℕ) (was now : Table) (before after : Client) → Goes n was now before after → Sees n (theory.client_view before) (theory.client_view after)) where
     each_sees :
-        (olds news : List Client) → length news ≡ length olds
+        (u : ℕ) (olds news : List Client) → length news ≡ length olds
         → ((k : ℕ) (before after : Client) → slice_get olds k ≡ Some before → slice_get news k ≡ Some after
-        → Sees (theory.client_view before) (theory.client_view after))
-        → Each Sees (map theory.client_view olds) (map theory.client_view news)
-    each_sees [] [] e goes = tt
-    each_sees [] (n ∷ news) e goes = absurd (omega (arith, e))
-    each_sees (o ∷ olds) [] e goes = absurd (omega (arith, e))
-    each_sees (o ∷ olds) (n ∷ news) e goes = (goes 0 o n refl refl, each_sees olds news (omega (arith, e)) (λ k. goes (suc k)))
+        → Sees (u + k) (theory.client_view before) (theory.client_view after))
+        → Each Sees u (map theory.client_view olds) (map theory.client_view news)
+    each_sees u [] [] e goes = tt
+    each_sees u [] (n ∷ news) e goes = absurd (omega (arith, e))
+    each_sees u (o ∷ olds) [] e goes = absurd (omega (arith, e))
+    each_sees u (o ∷ olds) (n ∷ news) e goes =
+        let first : u + 0 ≡ u = omega arith in (
+          subst (λ m. Sees m (theory.client_view o) (theory.client_view n)) first (goes 0 o n refl refl),
+          each_sees (u + 1) olds news (omega (arith, e))
+              (λ k before after eb ea.
+              let next : u + suc k ≡ u + 1 + k = omega arith in
+              subst (λ m. Sees m (theory.client_view before) (theory.client_view after)) next (goes (suc k) before after eb ea)),
+        )
 
     -- what holds of the views of a side that went on holds of those of each that did
     all_seen :
         (from : ℕ) (old new : List Table) (above above_new : List Client) → length above_new ≡ length above → length new ≡ length old
         → from + length above ≡ length old → EachAt Goes from old new above above_new
-        → Each Sees (map theory.client_view above) (map theory.client_view above_new)
+        → Each Sees from (map theory.client_view above) (map theory.client_view above_new)
     all_seen from old new above above_new sides many among goes =
-        each_sees above above_new sides
+        each_sees from above above_new sides
         (λ k before after eb ea.
         let within = slice_get_within above k before eb in
         let (was, ew) = element_at old (from + k) (omega (arith, within, among)) in
         let (now, en) = element_at new (from + k) (omega (arith, within, many, among)) in
-        sees was now before after (goes k was now before after ew en eb ea))
+        sees (from + k) was now before after (goes k was now before after ew en eb ea))
+
+  exchanges_one :
+      (waits : List (ℕ × O)) (was now : Table) (old new : Client) → ExchangesAt theory waits was now old new → Exchanges waits (theory.client_view old) (theory.client_view new)
+  exchanges_one waits was now old new (inl (out, (found, collects, did, keeps))) = inl (out, (found, collects))
+  exchanges_one waits was now old new (inr (inl (free, some, (batch, all, asked, room, publishes, did, keeps)))) =
+      inr (inl (free, some, (batch.requests.items, all, asked, subst (λ n. Publishes batch.requests.items n (theory.client_view old) (theory.client_view new)) room publishes)))
+  exchanges_one waits was now old new (inr (inr (free, none, same, view, keeps))) = inr (inr (free, none, view))
 
   -- what is said of the tables too says what is said of the views
   pub looks_seen :
-      (from : ℕ) (old new : List Table) (above above_new : List Client) → length above_new ≡ length above → length new ≡ length old
-      → from + length above ≡ length old → EachAt (LooksUpAt theory) from old new above above_new
-      → Each LooksUp (map theory.client_view above) (map theory.client_view above_new)
-  looks_seen = all_seen (LooksUpAt theory) LooksUp (λ was now before after looks. (looks.0, looks.1))
+      (waits : ℕ → ClientView V O R T → List (ℕ × O)) (from : ℕ) (old new : List Table) (above above_new : List Client) → length above_new ≡ length above → length new ≡ length old
+      → from + length above ≡ length old → EachAt (λ n was now before after. ExchangesAt theory (waits n (theory.client_view before)) was now before after) from old new above above_new
+      → Each (λ n a b. Exchanges (waits n a) a b) from (map theory.client_view above) (map theory.client_view above_new)
+  looks_seen waits =
+      all_seen (λ n was now before after. ExchangesAt theory (waits n (theory.client_view before)) was now before after) (λ n a b. Exchanges (waits n a) a b)
+      (λ n was now before after. exchanges_one (waits n (theory.client_view before)) was now before after)
 
   says_one : (all : Type 0) (was now : Table) (old new : Client) → SaysByeAt theory all was now old new → SaysBye all (theory.client_view old) (theory.client_view new)
   says_one all was now old new (inl said) =
@@ -177,6 +206,8 @@ module _ {V O R T Table Client Owner : Type 0} (theory : Theory V O R T Table Cl
 
   pub says_seen :
       (all : Type 0) (from : ℕ) (old new : List Table) (above above_new : List Client) → length above_new ≡ length above → length new ≡ length old
-      → from + length above ≡ length old → EachAt (SaysByeAt theory all) from old new above above_new
-      → Each (SaysBye all) (map theory.client_view above) (map theory.client_view above_new)
-  says_seen all = all_seen (SaysByeAt theory all) (SaysBye all) (says_one all)
+      → from + length above ≡ length old → EachAt (λ n was now before after. SaysByeAt theory all was now before after) from old new above above_new
+      → Each (λ n a b. SaysBye all a b) from (map theory.client_view above) (map theory.client_view above_new)
+  says_seen all =
+      all_seen (λ n was now before after. SaysByeAt theory all was now before after) (λ n a b. SaysBye all a b)
+      (λ n was now before after. says_one all was now before after)

@@ -5,3 +5,9 @@ pub mod Tables
 pub mod Turn
 pub mod Begun
 pub mod AboveAt
+pub mod NestedAsks
+pub mod Awaiting
+pub mod Lanes
+pub mod Steps
+pub mod Laws
+pub mod Tasks

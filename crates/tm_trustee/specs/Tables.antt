@@ -6,7 +6,7 @@ use Rattle.tm_batch.specs.declared.config.First.{First}
 use Rattle.tm_seq.specs.Kind.{Kind}
 use Rattle.tm_model.specs.Opening.{opening_of}
 use Rattle.tm_pair.specs.Theory.{Theory}
-use Rattle.tm_trustee.specs.Serving.{IsServing}
+use Rattle.tm_trustee.specs.Serving.{IsServing, IsGoing}
 use Rattle.tm_trustee.specs.declared.trustee.Trustee.{Trustee}
 
 -- the elements of the same positions of two lists are related
@@ -61,5 +61,11 @@ module _ {V O R T Table Client Owner : Type 0} (theory : Theory V O R T Table Cl
   -- ones behind
   pub record IsReady (kind : Kind V O R T) (tables : List Table) (t : Trustee V Table O R T Client Owner) : Type 0 where
     pub home : IsSomeAnd (slice_get tables t.number) (λ table. theory.HasTrustee table t.side × IsServing theory kind (theory.opening table) t)
+    pub built : AreOfOne tables
+    pub above : AreAmong tables (t.number + 1) t.above.items
+
+  -- so it is in the midst of a turn
+  pub record IsMidway (kind : Kind V O R T) (tables : List Table) (t : Trustee V Table O R T Client Owner) : Type 0 where
+    pub home : IsSomeAnd (slice_get tables t.number) (λ table. theory.HasTrustee table t.side × IsGoing theory kind (theory.opening table) t)
     pub built : AreOfOne tables
     pub above : AreAmong tables (t.number + 1) t.above.items

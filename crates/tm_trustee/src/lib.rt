@@ -5,10 +5,14 @@
 #![tactic(auto)]
 
 mod above;
+mod lane;
+mod laws;
 mod places;
 mod served;
 mod stage;
+mod tasks;
 mod trustee;
 
+pub use laws::{trustees_are_latched, trustees_are_tied};
 pub use served::Served;
 pub use trustee::{Trustee, TrusteeRefused};

@@ -1,20 +1,22 @@
 //! A trustee and its turns.
-ghost use Rattle.std.specs.Prelude.{◌≡◌, ◌+◌, ◌≤◌, ◌↔◌, IsTrue, All, IfOk, IfErr, length, slice_get};
-ghost use Rattle.std.proofs.Math.ListN.{replicate};
+ghost use Rattle.std.specs.Prelude.{◌≡◌, ◌+◌, ◌≤◌, ◌↔◌, IsTrue, All, IfOk, IfErr, length, slice_get, List};
 ghost use Rattle.std.specs.declared.option.Option.TheVariants.{Some};
-ghost use Rattle.tm_trustee.specs.Above.{LooksUpAt, SaysByeAt, all_moves_up};
+ghost use Rattle.tm_state.specs.Asking.{TellsEnd};
+ghost use Rattle.tm_trustee.specs.Above.{SaysByeAt, all_moves_up};
 ghost use Rattle.tm_trustee.specs.AboveAt.{EachAt};
 ghost use Rattle.tm_trustee.specs.Begun.{IsBeginnable, HasBegun, IsNewHome, IsNewSeat};
 ghost use Rattle.tm_trustee.specs.Places.{ServesAll, found_below};
 ghost use Rattle.tm_trustee.specs.Serving.{GoesOn, TellsRun, done_by, ups_of};
-ghost use Rattle.tm_trustee.specs.Tables.{IsReady, KeepsAbove, KeepsOwn, KeepsTables};
-ghost use Rattle.tm_trustee.specs.Turn.{HasGoneUp, HasTurned, KeepsParts, Tells};
-ghost use Rattle.tm_trustee.specs.declared.stage.Stage.TheVariants.{Before, Over};
+ghost use Rattle.tm_trustee.specs.Tables.{IsReady, IsMidway, KeepsAbove, KeepsOwn, KeepsTables};
+ghost use Rattle.tm_trustee.specs.Turn.{ExchangesAll, HasGoneUp, HasResumed, HasTurned, KeepsParts, Tells};
+ghost use Rattle.tm_trustee.specs.declared.stage.Stage.TheVariants.{Over};
 
-use crate::above::{Look, SayBye, go_above};
+use crate::above::{Exchange, SayBye, go_above};
+use crate::lane::{Lane, held_by, new_lanes};
 use crate::places::serve_places;
 use crate::served::Served;
 use crate::stage::Stage;
+use crate::tasks::resume_lanes;
 use std::alloc::{AllocError, Global};
 use tm_base::Gate;
 use tm_batch::{Config, First, Name};
@@ -33,11 +35,13 @@ pub struct Trustee<S: FitsBatches, P: PairTable<S>> {
     pub(crate) side: P::TrusteeSide,
     // For contracts alone, what was resumed since its last answer.
     pub(crate) since: GhostList<Entry<S>>,
-    // Its sides at the trustees `number + 1` and on, and how far it is with each.
+    // Its sides at the trustees `number + 1` and on, and what it keeps of each.
     pub(crate) above: Vec<P::ClientSide>,
-    pub(crate) stages: Vec<Stage>,
+    pub(crate) lanes: Vec<Lane<S>>,
     // The objects that it holds above, by their trustees' numbers, in the order of the build.
     pub(crate) nested: Vec<(u32, Name)>,
+    // By trustees' numbers, how many objects it holds at each.
+    pub(crate) held: Vec<u32>,
     // What its last turn moved, or `u64::MAX` where that is more.
     pub(crate) moved: u64,
 }
@@ -55,20 +59,11 @@ pub struct TrusteeRefused<S: FitsBatches, P: PairTable<S>> {
     pub nested: Vec<(u32, Name)>,
 }
 
-/// So many sides where nothing was said.
-fn new_stages(alloc: Global, count: usize) -> Result<Vec<Stage>, AllocError>
-    ensures { IfOk result (λ stages. stages.items ≡ replicate count Before) }
+/// Whether a `Bye` is over at each of some lanes.
+fn are_over<S: FitsBatches>(lanes: &[Lane<S>]) -> bool
+    ensures { IsTrue result ↔ All (λ lane. lane.stage ≡ Over) lanes.now }
 {
-    let mut stages = Vec::new(alloc);
-    stages.resize(count, Stage::Before)?;
-    Ok(stages)
-}
-
-/// Whether each of some stages is over.
-fn are_over(stages: &[Stage]) -> bool
-    ensures { IsTrue result ↔ All (λ stage. stage ≡ Over) stages.now }
-{
-    stages.iter().all(|stage| *stage == Stage::Over)
+    lanes.iter().all(|lane| lane.stage == Stage::Over)
 }
 
 /// Whether two things hold.
@@ -120,7 +115,15 @@ impl<S: FitsBatches, P: PairTable<S>> Trustee<S, P> {
         ensures above_back { IfErr result (λ back. back.above.items ≡ above.items) }
         ensures nested_back { IfErr result (λ back. back.nested.items ≡ nested.items) }
     {
-        let Ok(stages) = new_stages(alloc, above.len()) else {
+        let Ok(lanes) = new_lanes(alloc, number + 1, above.len(), config.objects, &nested) else {
+            return Err(TrusteeRefused {
+                first,
+                side,
+                above,
+                nested,
+            });
+        };
+        let Ok(held) = held_by(alloc, number, &lanes) else {
             return Err(TrusteeRefused {
                 first,
                 side,
@@ -136,8 +139,9 @@ impl<S: FitsBatches, P: PairTable<S>> Trustee<S, P> {
                 side,
                 since: GhostList::new(),
                 above,
-                stages,
+                lanes,
                 nested,
+                held,
                 moved: 0,
             }),
             Err(first) => Err(TrusteeRefused {
@@ -165,18 +169,19 @@ impl<S: FitsBatches, P: PairTable<S>> Trustee<S, P> {
         self.state.requests_run()
     }
 
-    /// Looks at each side above, in order. How many answers were collected.
-    fn look_above(&mut self, tables: &mut [P]) -> u64
+    /// At each side above, in order: looks for answers where a batch is out, else sends the first asks that wait. How
+    /// many batches were moved.
+    fn exchange_above(&mut self, tables: &mut [P]) -> u64
         requires { IsReady P.theory S.kind tables.old self.old }
-        ensures ready { IsReady P.theory S.kind tables.new self.new }
-        ensures looks { EachAt (LooksUpAt P.theory) (self.old.number + 1) tables.old tables.new self.old.above.items self.new.above.items }
+        ensures ready { IsMidway P.theory S.kind tables.new self.new }
+        ensures exchanges { (was : P) → slice_get tables.old self.old.number ≡ Some was → ExchangesAll P.theory (P.theory.opening was) tables.old tables.new self.old self.new }
         ensures as_many { length self.new.above.items ≡ length self.old.above.items }
         ensures moved { result ≡ all_moves_up (ups_of P.theory self.old) (ups_of P.theory self.new) }
         ensures most { result ≤ length self.old.above.items }
         ensures tables { KeepsAbove P.theory tables.old tables.new (self.old.number + 1) (self.old.clients + self.old.number) }
-        ensures only { self.new ≡ record self.old { above = self.new.above; stages = self.new.stages } }
+        ensures only { self.new ≡ record self.old { above = self.new.above; lanes = self.new.lanes } }
     {
-        go_above::<S, P, Look>(tables, self.number + 1, &mut self.above, &mut self.stages)
+        go_above::<S, P, Exchange>(tables, self.number + 1, &mut self.above, &mut self.lanes)
     }
 
     /// Serves each place of its own table once, in order. At how many of them it found a batch.
@@ -205,29 +210,50 @@ impl<S: FitsBatches, P: PairTable<S>> Trustee<S, P> {
 
     /// Says `Bye` at each side above where that was not done, if `all` below have. How many were said.
     fn say_byes(&mut self, tables: &mut [P], all: bool) -> u64
-        requires { IsReady P.theory S.kind tables.old self.old }
+        requires ready { IsReady P.theory S.kind tables.old self.old }
+        requires told { TellsEnd S.kind self.old.state all }
         ensures ready { IsReady P.theory S.kind tables.new self.new }
-        ensures says { EachAt (SaysByeAt P.theory (IsTrue all)) (self.old.number + 1) tables.old tables.new self.old.above.items self.new.above.items }
+        ensures says { EachAt (λ n was now before after. SaysByeAt P.theory (IsTrue all) was now before after) (self.old.number + 1) tables.old tables.new self.old.above.items self.new.above.items }
         ensures as_many { length self.new.above.items ≡ length self.old.above.items }
         ensures moved { result ≡ all_moves_up (ups_of P.theory self.old) (ups_of P.theory self.new) }
         ensures most { result ≤ length self.old.above.items }
         ensures tables { KeepsAbove P.theory tables.old tables.new (self.old.number + 1) (self.old.clients + self.old.number) }
-        ensures only { self.new ≡ record self.old { above = self.new.above; stages = self.new.stages } }
+        ensures only { self.new ≡ record self.old { above = self.new.above; lanes = self.new.lanes } }
     {
         let from = self.number + 1;
         if all {
-            go_above::<S, P, SayBye>(tables, from, &mut self.above, &mut self.stages)
+            go_above::<S, P, SayBye>(tables, from, &mut self.above, &mut self.lanes)
         } else {
             0
         }
     }
 
-    /// Makes one turn. For each greater trustee it looks for the answer to its `Bye`, if that is out. Then it
-    /// looks once at each place of its own table, in order, runs each batch that it finds, each request once it
-    /// has passed the gate, and answers it. Where every place below has said `Bye`, it says `Bye` above.
+    /// Tells each reply that came to the work that asked, in order, and begins each launch that is the first of its
+    /// object; each goes on until it asks above or ends. How many resumes were made, or `u64::MAX` where that is more.
+    fn resume_all(&mut self) -> u64
+        requires { (tables : List P) × IsMidway P.theory S.kind tables self.old }
+        ensures ready { (tables : List P) → IsMidway P.theory S.kind tables self.old → IsReady P.theory S.kind tables self.new }
+        ensures resumed { HasResumed P.theory S.kind self.old self.new result }
+        ensures only { self.new ≡ record self.old { state = self.new.state; since = self.new.since; lanes = self.new.lanes } }
+    {
+        resume_lanes(
+            &mut self.state,
+            self.number,
+            &self.held,
+            &mut self.since,
+            &mut self.lanes,
+        )
+    }
+
+    /// Makes one turn. At each greater trustee it looks for answers if a batch is out, and else sends the first asks that
+    /// wait, at most 16. Then it goes on with launched work: each reply that came is told to the work that asked,
+    /// and each launch that is the first of its object begins, until it asks above or ends. Then it looks once at each
+    /// place of its own table, in order, runs each batch that it finds, each request once it has passed the gate, and
+    /// answers it. Where every place below has said `Bye`, it says `Bye` above.
     ///
-    /// `tables[t]` is trustee `t`'s table. Beside what the operations and the gate do it never waits and never
-    /// allocates. Its time is a look for each place and each greater trustee, and the requests that it runs.
+    /// `tables[t]` is trustee `t`'s table. Beside what the operations, the tasks and the gate do it never waits and never
+    /// allocates. Its time is a look for each place and each greater trustee, the requests that it runs, and a
+    /// constant for each resume.
     pub fn serve_turn<G: Gate>(&mut self, tables: &mut [P], gate: &G) -> Served
         requires ready { IsReady P.theory S.kind tables.old self.old }
         ensures ready { IsReady P.theory S.kind tables.new self.new }
@@ -236,13 +262,14 @@ impl<S: FitsBatches, P: PairTable<S>> Trustee<S, P> {
         ensures tables { KeepsTables P.theory tables.old tables.new self.old.number (self.old.clients + self.old.number) }
         ensures parts { KeepsParts self.old self.new }
     {
-        let collected = self.look_above(tables);
+        let exchanged = self.exchange_above(tables);
+        let resumed = self.resume_all();
         let found = self.serve_table(tables, gate);
         let all = self.state.is_closed();
         let said = self.say_byes(tables, all);
-        let over = are_over(self.stages.as_slice());
-        let answered = collected + found;
-        let moved = answered + said;
+        let over = are_over(self.lanes.as_slice());
+        let answered = exchanged + found;
+        let moved = resumed.saturating_add(answered + said);
         self.moved = moved;
         outcome(is_both(all, over), moved)
     }

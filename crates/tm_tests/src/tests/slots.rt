@@ -7,6 +7,7 @@ mod answering;
 mod asking;
 mod less;
 mod looking;
+mod shared;
 mod start;
 
 use self::answering::{answer_gift, answer_grant, answer_two};

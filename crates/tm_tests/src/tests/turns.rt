@@ -5,6 +5,7 @@ ghost use Rattle.tm_tests.specs.Driving.{IsSeated, IsDriven};
 
 mod asking;
 mod gate;
+mod launching;
 mod looking;
 mod names;
 mod nested;

@@ -9,8 +9,17 @@ use std::alloc::{AllocError, Global};
 use tm_batch::{Config, First, Holders};
 use tm_pair::{PlainClient, PlainTable, PlainTrustee};
 
+/// How the runtime is built.
+pub(super) const TWO_CLIENTS: Config = Config {
+    clients: 2,
+    trustees: 2,
+    objects: 4,
+    trusts: 4,
+    last_id: 9,
+};
+
 /// The object of the build, 4 to be taken away.
-fn first(alloc: Global) -> Result<Vec<First<Less>>, AllocError>
+pub(super) fn first(alloc: Global) -> Result<Vec<First<Less>>, AllocError>
     ensures { IfOk result (λ first. first.items ≡ sample_first (record { by = 4 })) }
 {
     let holders = Holders::new(vec![in alloc; 0]?);
@@ -29,12 +38,5 @@ pub(super) fn start(
 ) -> Result<(PlainTable<Less>, Vec<PlainClient<Less>>, PlainTrustee<Less>), AllocError>
     ensures { IfOk result (λ r. IsNewTable (plain_theory (less_kind (λ v. v.by))) (sample (record { by = 4 })) r.0 r.1.items r.2) }
 {
-    let config = Config {
-        clients: 2,
-        trustees: 2,
-        objects: 4,
-        trusts: 4,
-        last_id: 9,
-    };
-    PlainTable::new(alloc, 0, config, &first(alloc)?)
+    PlainTable::new(alloc, 0, TWO_CLIENTS, &first(alloc)?)
 }

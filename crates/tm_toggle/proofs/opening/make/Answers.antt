@@ -10,7 +10,7 @@ pub new-requires : goal.new-requires
 new-requires g c =
     let key : Key g.row.S.Denot g.row.S-Op.Denot g.row.S-Reply.Denot g.row.S-Task.Denot = record { number = c.args.number; config = c.args.config; first = c.told.result } in
     let words : c.as_slice.result.now ≡ replicate (32 * (c.args.config.clients + c.args.number) + 48) 0 = c.as_slice.ensures.value ∙ c.in_ok-words.ensures.items_if_clones_equal (λ y h. h) in
-    let slots : c.in_ok-slots.slots.items ≡ replicate (c.args.config.clients + c.args.number) (empty_of g.row.S.Denot g.row.S-Op.Denot g.row.S-Reply.Denot g.row.S-Task.Denot) = search rules in
+    let slots : c.in_ok-slots.slots.items ≡ replicate (c.args.config.clients + c.args.number) (empty_of g.S.Entrusted.kind) = search rules in
     starts g.S.Entrusted.kind key (c.args.config.clients + c.args.number) _ _ (subst (λ l. IsBuildable c.args.config l) (sym c.told.ensures) c.requires.buildable) c.requires.number refl words slots
 
 pub returns : goal.returns
@@ -20,7 +20,7 @@ returns g c =
     let key : Key g.row.S.Denot g.row.S-Op.Denot g.row.S-Reply.Denot g.row.S-Task.Denot = record { number = c.args.number; config = c.args.config; first = c.told.result } in
     let made = c.in-Ok.ensures.ok in
     let words : c.as_slice.result.now ≡ replicate (32 * n + 48) z = c.as_slice.ensures.value ∙ c.in_ok-words.ensures.items_if_clones_equal (λ y h. h) in
-    let empty = empty_of g.row.S.Denot g.row.S-Op.Denot g.row.S-Reply.Denot g.row.S-Task.Denot in
+    let empty = empty_of g.S.Entrusted.kind in
     let slots : c.in_ok-slots.slots.items ≡ replicate n empty = search rules in
     let many : c.in-Ok.table.shared.table_id.words ≡ 32 * n + 48 = made.0 ∙ ap length words ∙ length-replicate (32 * n + 48) z in
     let deep : c.in-Ok.table.shared.table_id.slots ≡ n = made.1 ∙ ap length slots ∙ length-replicate n empty in

@@ -33,7 +33,7 @@ answer_behind-requires g c =
       (
         c.requires.mine,
         resuming.may_answer kind opening view since c.args.state.now c.answer-answers.new.self c.args.place c.args.batch c.answer-answers.result
-            c.requires.current.only c.requires.hand may c.answer-answers.ensures,
+            c.requires.current.only c.requires.hand may c.answer-answers.ensures.answered,
       ),
     )
 
@@ -52,7 +52,7 @@ returns-clause-replied g c =
       answers = c.answer-answers.result;
       only = c.requires.current.only;
       may = resuming.may_answer kind opening view since c.args.state.now c.answer-answers.new.self c.args.place c.args.batch c.answer-answers.result
-          c.requires.current.only c.requires.hand may c.answer-answers.ensures;
+          c.requires.current.only c.requires.hand may c.answer-answers.ensures.answered;
       answered = c.answer_behind.ensures.answers;
       did = c.answer_behind.ensures.did;
       keeps = c.answer_behind.ensures.keeps;
@@ -70,7 +70,7 @@ returns-clause-current g c =
     resuming.in_hand_may_run kind opening view since c.args.state.now c.args.place c.args.batch good c.requires.current c.requires.place c.requires.hand in
     resuming.emptied_current kind opening (theory.trustee_view c.answer_behind.new.side).log c.new.result.items c.answer-answers.new.self c.new.ensures
     (resuming.current_behind kind opening view since c.args.state.now c.answer-answers.new.self c.args.place c.args.batch c.answer-answers.result
-    c.requires.current.only c.requires.hand may c.answer-answers.ensures (theory.trustee_view c.answer_behind.new.side) c.answer_behind.ensures.answers)
+    c.requires.current.only c.requires.hand may c.answer-answers.ensures.answered (theory.trustee_view c.answer_behind.new.side) c.answer_behind.ensures.answers)
 
 pub returns-clause-goes_on : goal.returns-clause-goes_on
 returns-clause-goes_on g c =
@@ -84,4 +84,4 @@ returns-clause-goes_on g c =
     resuming.in_hand_may_run kind opening view since c.args.state.now c.args.place c.args.batch good c.requires.current c.requires.place c.requires.hand in
     resuming.emptied_goes (view.log ++ since) (theory.trustee_view c.answer_behind.new.side).log c.new.result.items c.new.ensures
     (resuming.goes_behind kind opening view since c.args.state.now c.answer-answers.new.self c.args.place c.args.batch c.answer-answers.result
-    c.requires.current.only c.requires.hand may c.answer-answers.ensures (theory.trustee_view c.answer_behind.new.side) c.answer_behind.ensures.answers)
+    c.requires.current.only c.requires.hand may c.answer-answers.ensures.answered (theory.trustee_view c.answer_behind.new.side) c.answer_behind.ensures.answers)

@@ -1,4 +1,5 @@
 use Rattle.std.proofs.Common.{◌≡◌, ◌<◌, length, get_or, refl, ap, arith}
+use Rattle.tm_state.proofs.BatchGrows.{grows_none, grows_more}
 use Rattle.tm_state.proofs.BatchMore.{same_item, same_rest, none_run, next_runnable, next_run, all_run}
 use Rattle.tm_state.proofs.state.TrusteeState.run_all.Goals as goal
 
@@ -9,6 +10,7 @@ loop-request-init g c = record {
   many = ap (λ l. length l) c.requires.empty;
   rest = c.as_mut_slice-request-items.ensures.value;
   ran = none_run g.S.Entrusted.kind c.args.place c.args.batch.requests.items c.args.answers.now.answers.items c.args.self.now;
+  launched = grows_none c.args.self.now.launched c.args.self.now.launched refl;
 }
 
 pub run-answer-requires : goal.run-answer-requires
@@ -37,7 +39,8 @@ loop-request-preserved g c =
       rest = same_rest c.loop-request.request-items b i c.take.new.dest had.rest;
       ran =
           next_run g.S.Entrusted.kind c.args.place b i c.loop-request.answers.answers.items q c.args.self.now c.loop-request.self had.many lt is had.ran
-          c.run-answer.result c.push.new.self.items c.run-answer.new.self c.push.ensures.items c.run-answer.ensures;
+          c.run-answer.result c.push.new.self.items c.run-answer.new.self c.push.ensures.items c.run-answer.ensures.run;
+      launched = grows_more c.args.self.now.launched c.loop-request.self.launched c.run-answer.new.self.launched had.launched c.run-answer.ensures.launched;
     }
 
 pub returns-clause-ran : goal.returns-clause-ran

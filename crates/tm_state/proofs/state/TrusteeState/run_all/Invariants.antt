@@ -1,4 +1,5 @@
 use Rattle.std.proofs.Common.{◌≡◌, length, drop}
+use Rattle.tm_state.specs.Launches.{Grows}
 use Rattle.tm_state.proofs.BatchMore.{HasRunFront}
 use Rattle.tm_state.proofs.state.TrusteeState.run_all.Given as goal
 
@@ -10,4 +11,5 @@ invariant-loop-request g l = record {
   many : length l.answers.answers.items ≡ l.request-index;
   rest : drop l.request-index l.request-items ≡ drop l.request-index l.fn.batch.requests.items;
   ran : HasRunFront g.S.Entrusted.kind l.fn.place l.fn.batch.requests.items l.request-index l.answers.answers.items l.fn.self l.self;
+  launched : Grows l.fn.self.launched l.self.launched;
 }

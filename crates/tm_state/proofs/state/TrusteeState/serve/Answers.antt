@@ -1,3 +1,4 @@
+use Rattle.tm_state.proofs.BatchGrows.{grows_none}
 use Rattle.tm_state.proofs.RowsKeep.{served_as}
 use Rattle.tm_state.proofs.state.TrusteeState.serve.Goals as goal
 
@@ -28,3 +29,21 @@ returns-in-Reclaim-clause-served g c =
 pub returns-in-Bye-clause-served : goal.returns-in-Bye-clause-served
 returns-in-Bye-clause-served g c =
     served_as g.S.Entrusted.kind c.args.place c.close.result c.args.self.now c.close.new.self c.in-Bye.is c.close.ensures.served
+
+pub returns-in-Entrust-clause-launched : goal.returns-in-Entrust-clause-launched
+returns-in-Entrust-clause-launched g c = grows_none _ _ c.entrust.ensures.launched
+
+pub returns-in-Apply-clause-launched : goal.returns-in-Apply-clause-launched
+returns-in-Apply-clause-launched g c = grows_none _ _ c.apply.ensures.launched
+
+pub returns-in-Grant-clause-launched : goal.returns-in-Grant-clause-launched
+returns-in-Grant-clause-launched g c = grows_none _ _ c.grant.ensures.launched
+
+pub returns-in-Release-clause-launched : goal.returns-in-Release-clause-launched
+returns-in-Release-clause-launched g c = grows_none _ _ c.release.ensures.launched
+
+pub returns-in-Reclaim-clause-launched : goal.returns-in-Reclaim-clause-launched
+returns-in-Reclaim-clause-launched g c = grows_none _ _ c.reclaim.ensures.launched
+
+pub returns-in-Bye-clause-launched : goal.returns-in-Bye-clause-launched
+returns-in-Bye-clause-launched g c = grows_none _ _ c.close.ensures.launched

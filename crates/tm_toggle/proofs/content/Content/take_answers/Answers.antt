@@ -1,71 +1,37 @@
-use Rattle.std.proofs.Common.{length, ap, arith}
-use Rattle.tm_toggle.proofs.Pouring.{one_more, as_many, none_left, all_over, begun, begun_long, length_snoc, gone}
-use Rattle.tm_batch.specs.declared.limits.TheConstants.{MOST_REQUESTS, MOST_ROOM, MOST_COMPLETIONS}
+use Rattle.std.proofs.Common.{rules, ℕ, ◌≤◌, take, slice_set, sym, ◌∙◌, ap, subst, arith}
+use Rattle.tm_batch.specs.declared.limits.TheConstants.{MOST_REQUESTS}
+use Rattle.tm_toggle.proofs.Counting.{other, still_no_requests, no_more_answers}
 use Rattle.tm_toggle.proofs.content.Content.take_answers.Goals as goal
 
-pub loop-answer-preserved : goal.loop-answer-preserved
-loop-answer-preserved g c =
-    let i = c.loop-answer.invariant in
-    record {
-      answers = (one_more _ _ _ _ c.in-Some.answer _ c.in-Some.ensures.items c.push.ensures.items i.answers.0, as_many _ _ _ _ c.in-Some.answer MOST_REQUESTS c.in-Some.ensures.items c.push.ensures.items i.answers.1);
-      gifts = i.gifts;
-      completions = i.completions;
-      requests = i.requests;
-      front = i.front;
-    }
+pub take_out-requires-2 : goal.take_out-requires-2
+take_out-requires-2 g c =
+    let f = c.requires.requests.full in
+    let n = c.args.self.now.counts in
+    let is = other n 1 2 0 (λ e. absurd (omega arith)) in
+    (search rules, (f.gifts, (subst (λ k. k ≤ MOST_REQUESTS) (sym is) f.given_most, c.new-answers.ensures.gifts)))
 
-pub loop-gift-init : goal.loop-gift-init
-loop-gift-init g c =
-    let i = c.loop-answer.invariant in
-    let none = none_left c.loop-answer.self.answers.items c.pop.result c.pop.ensures.variant c.in_default.not-Some in
-    record {
-      answers = (all_over _ _ _ none i.answers.0, gone c.loop-answer.self.answers.items c.pop.new.self.items c.pop.ensures.rest none);
-      gifts = (begun _ _ _ i.gifts.0 (ap (λ x. x.items) i.gifts.1), begun_long _ _ _ MOST_ROOM i.gifts.0 (ap (λ x. x.items) i.gifts.1) i.gifts.2);
-      completions = i.completions;
-      requests = i.requests;
-      front = i.front;
-    }
+pub take_out-requires-3 : goal.take_out-requires-3
+take_out-requires-3 g c =
+    let f = c.requires.requests.full in
+    let n = c.args.self.now.counts in
+    let is = other (slice_set n 1 0) 2 3 0 (λ e. absurd (omega arith)) ∙ other n 1 3 0 (λ e. absurd (omega arith)) in
+    (search rules, (f.completions, (subst (λ k. k ≤ MOST_REQUESTS) (sym is) f.ended_most, c.new-answers.ensures.completions)))
 
-pub loop-gift-preserved : goal.loop-gift-preserved
-loop-gift-preserved g c =
-    let i = c.loop-gift.invariant in
-    record {
-      answers = i.answers;
-      gifts = (one_more _ _ _ _ c.in-Some-pop.gift _ c.in-Some-pop.ensures.items c.push-in-Some-pop.ensures.items i.gifts.0, as_many _ _ _ _ c.in-Some-pop.gift MOST_ROOM c.in-Some-pop.ensures.items c.push-in-Some-pop.ensures.items i.gifts.1);
-      completions = i.completions;
-      requests = i.requests;
-      front = i.front;
-    }
+pub returns-clause-requests : goal.returns-clause-requests
+returns-clause-requests g c =
+    still_no_requests c.args.self.now c.args.self.now.front c.take_out.new.row c.take_out-2.new.row c.take_out-3.new.row 0 0 0
+    c.requires.requests c.take_out.ensures.full c.take_out-2.ensures.full c.take_out-3.ensures.full (omega arith) (omega arith) (omega arith)
 
-pub loop-completion-init : goal.loop-completion-init
-loop-completion-init g c =
-    let i = c.loop-gift.invariant in
-    let none = none_left c.loop-gift.self.gifts.items c.pop-in-loop-gift.result c.pop-in-loop-gift.ensures.variant c.in_default-pop.not-Some in
-    record {
-      answers = i.answers;
-      gifts = (all_over _ _ _ none i.gifts.0, gone c.loop-gift.self.gifts.items c.pop-in-loop-gift.new.self.items c.pop-in-loop-gift.ensures.rest none);
-      completions = (begun _ _ _ i.completions.0 (ap (λ x. x.items) i.completions.1), begun_long _ _ _ MOST_COMPLETIONS i.completions.0 (ap (λ x. x.items) i.completions.1) i.completions.2);
-      requests = i.requests;
-      front = i.front;
-    }
-
-pub push-requires-in-Some-pop-2 : goal.push-requires-in-Some-pop-2
-push-requires-in-Some-pop-2 g c = let i = c.loop-completion.invariant in let m = i.completions.1 in let e = ap length c.in-Some-pop-2.ensures.items in let d = length_snoc c.pop-in-loop-completion.new.self.items c.in-Some-pop-2.completion in omega arith
-
-pub loop-completion-preserved : goal.loop-completion-preserved
-loop-completion-preserved g c =
-    let i = c.loop-completion.invariant in
-    record {
-      answers = i.answers;
-      gifts = i.gifts;
-      completions = (one_more _ _ _ _ c.in-Some-pop-2.completion _ c.in-Some-pop-2.ensures.items c.push-in-Some-pop-2.ensures.items i.completions.0, as_many _ _ _ _ c.in-Some-pop-2.completion MOST_COMPLETIONS c.in-Some-pop-2.ensures.items c.push-in-Some-pop-2.ensures.items i.completions.1);
-      requests = i.requests;
-      front = i.front;
-    }
+pub returns-clause-none : goal.returns-clause-none
+returns-clause-none g c =
+    no_more_answers c.args.self.now c.take_out.new.row c.take_out-2.new.row c.take_out-3.new.row c.requires.requests.full
+    c.take_out.ensures.full c.take_out-2.ensures.full c.take_out-3.ensures.full
 
 pub returns-clause-answers : goal.returns-clause-answers
 returns-clause-answers g c =
-    let i = c.loop-completion.invariant in
-    let none = none_left c.loop-completion.self.completions.items c.pop-in-loop-completion.result c.pop-in-loop-completion.ensures.variant c.in_default-pop-2.not-Some in
-    let all = all_over _ _ _ none i.completions.0 in
-    λ j. record { front = i.front j; answers = record { items = i.answers.0 j }; gifts = record { items = i.gifts.0 j }; completions = record { items = all j } }
+    let n = c.args.self.now.counts in
+    let front = c.new-answers.ensures.front in
+    let first = c.take_out.ensures.items in
+    let second = c.take_out-2.ensures.items ∙ ap (λ (k : ℕ). take k c.args.self.now.gifts.items) (other n 1 2 0 (λ e. absurd (omega arith))) in
+    let third = c.take_out-3.ensures.items ∙ ap (λ (k : ℕ). take k c.args.self.now.completions.items) (other (slice_set n 1 0) 2 3 0 (λ e. absurd (omega arith)) ∙ other n 1 3 0 (λ e. absurd (omega arith))) in
+    λ j. record { front = front j; answers = record { items = first j }; gifts = record { items = second j }; completions = record { items = third j } }

@@ -1,24 +1,9 @@
-use Rattle.tm_toggle.proofs.Pouring.{one_more, as_many, none_left, all_over, gone}
-use Rattle.tm_batch.specs.declared.limits.TheConstants.{MOST_REQUESTS}
+use Rattle.std.proofs.Common.{arith}
+use Rattle.tm_toggle.proofs.Counting.{still_no_answers, no_more_requests}
 use Rattle.tm_toggle.proofs.content.Content.take_batch.Goals as goal
 
-pub loop-request-preserved : goal.loop-request-preserved
-loop-request-preserved g c =
-    let i = c.loop-request.invariant in (
-      one_more _ _ _ _ c.in-Some.request _ c.in-Some.ensures.items c.push.ensures.items i.0,
-      as_many _ _ _ _ c.in-Some.request MOST_REQUESTS c.in-Some.ensures.items c.push.ensures.items i.1,
-      record { answers = i.2.answers; gifts = i.2.gifts; completions = i.2.completions },
-      i.3,
-    )
-
-pub returns-clause-batch : goal.returns-clause-batch
-returns-clause-batch g c =
-    let i = c.loop-request.invariant in
-    let none = none_left c.loop-request.self.requests.items c.pop.result c.pop.ensures.variant c.in_default.not-Some in
-    let all = all_over _ _ _ none i.0 in
-    λ j. record { requests = record { items = all j }; room = i.3 j }
-
 pub returns-clause-requests : goal.returns-clause-requests
-returns-clause-requests g c =
-    gone c.loop-request.self.requests.items c.pop.new.self.items c.pop.ensures.rest
-    (none_left c.loop-request.self.requests.items c.pop.result c.pop.ensures.variant c.in_default.not-Some)
+returns-clause-requests g c = no_more_requests c.args.self.now c.take_out.new.row c.requires.answers.full c.take_out.ensures.full
+
+pub returns-clause-answers : goal.returns-clause-answers
+returns-clause-answers g c = still_no_answers c.args.self.now c.take_out.new.row c.args.self.now.room 0 c.requires.answers c.take_out.ensures.full (omega arith)

@@ -1,7 +1,8 @@
 use Rattle.std.proofs.Common.{◌≡◌, ◌+◌, ◌≤◌, refl, sym, subst, arith, slice_index_or, slice_set}
 use Rattle.tm_model.specs.State.{place_count}
 use Rattle.tm_trustee.proofs.Elements.{read_at, set_here}
-use Rattle.tm_trustee.proofs.TurningLooks.{found_most}
+use Rattle.tm_trustee.proofs.TurningIdle.{below_idle}
+use Rattle.tm_trustee.proofs.TurningLooks.{found_most, below_grows}
 use Rattle.tm_trustee.proofs.TurningReady as turning
 use Rattle.tm_trustee.proofs.TurningOwn as own
 use Rattle.tm_trustee.proofs.trustee.Trustee.serve_table.Goals as goal
@@ -38,11 +39,16 @@ returns-clause-ready g c =
     let within = (turning.is_few theory kind c.args.tables.now t c.requires).within in
     let here = read_at c.args.tables.now t.number table within is in
     let call = c.serve_places.ensures in
+    let home = turning.at_home theory kind c.args.tables.now t table c.requires here in
+    let many = own.places_of theory kind (theory.opening table) t home.1 in
+    let few : t.clients + t.number ≤ place_count (theory.opening table).setup = omega (arith, many) in
+    let idle = below_idle theory kind g.met.P.PairTable.laws (theory.opening table) (t.clients + t.number) table becomes t.side c.serve_places.new.side call.serves refl few home.0 home.1.idle in
+    let longer = below_grows theory kind (theory.opening table) (t.clients + t.number) table becomes t.side c.serve_places.new.side call.serves in
     turning.own_ready theory kind c.args.tables.now (slice_set c.args.tables.now t.number becomes) t
     (record t { side = c.serve_places.new.side; state = c.serve_places.new.state; since = c.serve_places.new.since }) table becomes refl c.requires here
     (set_here c.args.tables.now t.number becomes within)
     (own.own_kept theory kind g.met.P.PairTable.laws c.args.tables.now t.number table becomes c.serve_places.new.side here call.keeps) call.keeps.opening
-    call.keeps.mine call.current call.free
+    call.keeps.mine call.current call.free call.goes_on idle longer
 
 pub returns-clause-serves : goal.returns-clause-serves
 returns-clause-serves g c = λ was now is_was is_now.

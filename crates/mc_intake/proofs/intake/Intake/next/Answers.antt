@@ -1,0 +1,14 @@
+use Rattle.std.proofs.Common.{◌≤◌, ◌<◌, length, take, drop, ◌-◌, refl, subst}
+use Rattle.mc_grammar.specs.Progress.{IsReady}
+use Rattle.mc_grammar.specs.Reading.{ReadsOn}
+use Rattle.mc_intake.proofs.Reading.{taking}
+use Rattle.mc_intake.proofs.intake.Intake.next.Goals as goal
+
+pub returns-clause-next : goal.returns-clause-next
+returns-clause-next c = λ limit text messages is.
+    let i = c.args.self.now in
+    let n = c.in_ok-taken.taken in
+    let on = subst (λ l. ReadsOn i.reader (take n (take (i.to - i.from) (drop i.from l))) c.feed.new.self) c.deref.ensures.value c.in_ok-taken.ensures.reads in
+    let within = subst (λ l. n ≤ length (take (i.to - i.from) (drop i.from l))) c.deref.ensures.value c.in_ok-taken.ensures.within in
+    let through = subst (λ l. n < length (take (i.to - i.from) (drop i.from l)) → IsReady c.feed.new.self) c.deref.ensures.value c.in_ok-taken.ensures.through in
+    taking limit text messages i _ n c.feed.new.self c.next.result is refl refl refl refl within on c.next.ensures.comes c.next.ensures.reads through

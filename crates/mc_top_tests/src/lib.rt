@@ -1,0 +1,5 @@
+//! Tests of `mc_top`. They stand apart, so that it is not proved a second time for them. Nothing in it runs elsewhere.
+#![tactic(auto)]
+
+#[cfg(test)]
+mod tests;

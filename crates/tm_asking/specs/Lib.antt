@@ -1,0 +1,4 @@
+pub mod Questions
+pub mod Asking
+pub mod Turning
+pub mod Laws

@@ -1,0 +1,130 @@
+-- What serving the places of a table makes of the batches that wait there, and of the boxes where it finds none.
+use Rattle.std.proofs.Common.{◌≡◌, ℕ, zero, suc, ◌+◌, ◌≤◌, ◌<◌, inl, inr, Bool, true, false, cond, List, [], ◌∷◌, slice_index_or, refl, sym, ◌∙◌, ap, subst, arith}
+use Rattle.std.specs.Prelude.{slice_set}
+use Rattle.std.proofs.lemmas.Bool.{cases_eq}
+use Rattle.tm_seq.specs.Kind.{Kind}
+use Rattle.tm_model.specs.State.{State, place_count}
+use Rattle.tm_model.specs.Slots.{Asked, Looks, looked, slot_of, is_asked}
+use Rattle.tm_model.specs.Good.{FullBox, FullCore}
+use Rattle.tm_pair.specs.Views.{looks_at, no_looks}
+use Rattle.tm_pair.specs.Sides.{IsGoodTrustee}
+use Rattle.tm_pair.specs.Plain.{opening_at, core_at, trustee_at, IsTrusteeOf, plain_theory}
+use Rattle.tm_pair.specs.declared.plain.PlainTable.{PlainTable}
+use Rattle.tm_pair.specs.declared.plain.PlainTrustee.{PlainTrustee}
+use Rattle.tm_trustee.specs.Places.{ServesPlace, ServesBelow, found_below}
+use Rattle.tm_trustee.proofs.Serving.{at_most_one, found_told, found_one_more}
+use Rattle.tm_turns.proofs.Asked.{asked, asks, see_asks, answer_asks, see_none}
+use Rattle.tm_turns.proofs.Ones.{one_of}
+
+passed_found : (looks : List Looks) (c : ℕ) (l : Looks) → l.found ≡ false → (slice_index_or (slice_set looks c l) c no_looks).found ≡ false
+passed_found [] c l e = refl
+passed_found (x ∷ looks) zero l e = e
+passed_found (x ∷ looks) (suc c) l e = passed_found looks c l e
+
+asks_one : {V O R T : Type 0} (box other : FullBox V O R T) → box ≡ other → is_asked other ≡ true → one_of (is_asked box) ≡ 1
+asks_one box other e is = ap (λ b. one_of (is_asked b)) e ∙ ap (λ b. one_of b) is
+
+module _ {V O R T : Type 0} (kind : Kind V O R T) (opening : State V O R T) where
+  -- serving a place answers one of them, where it found one
+  place_falls :
+      (c : ℕ) (was now : PlainTable V O R T) (old new : PlainTrustee V O R T) → ServesPlace (plain_theory kind) kind opening c was now old new
+      → asked (core_at now) + cond (looks_at (trustee_at new) c).found 1 0 ≤ asked (core_at was)
+  place_falls c was now old new (inl passes) =
+      let falls = see_asks (core_at was) c in
+      let saw : asked (core_at now) + asks (slot_of (core_at was) c) ≤ asked (core_at was) =
+      subst (λ (core : FullCore V O R T). asked core + asks (slot_of (core_at was) c) ≤ asked (core_at was)) (sym passes.saw.core) falls in
+      let none : (looks_at (trustee_at new) c).found ≡ false =
+      ap (λ (looks : List Looks). (slice_index_or looks c no_looks).found) passes.sees.looks
+      ∙ passed_found (trustee_at old).looks c (looked false (looks_at (trustee_at old) c)) refl in
+      let nought : cond (looks_at (trustee_at new) c).found 1 0 ≡ 0 = ap (λ b. one_of b) none in
+      omega (arith, saw, nought)
+  place_falls c was now old new (inr answers) =
+      let falls = see_asks (core_at was) c in
+      let saw : asked (core_at answers.between) + asks (slot_of (core_at was) c) ≤ asked (core_at was) =
+      subst (λ (core : FullCore V O R T). asked core + asks (slot_of (core_at was) c) ≤ asked (core_at was)) (sym answers.saw.core) falls in
+      let one : asks (slot_of (core_at was) c) ≡ 1 =
+      asks_one (slot_of (core_at was) c).box (Asked answers.batch.requests.items answers.batch.room) answers.saw.may refl in
+      let r = answers.replied in
+      let then = answer_asks (core_at answers.between) c r.resumes r.answers (slot_of (core_at answers.between) c).box in
+      let after : asked (core_at now) ≤ asked (core_at answers.between) =
+      subst (λ (core : FullCore V O R T). asked core ≤ asked (core_at answers.between)) (sym r.did.core) then in
+      let most = at_most_one (looks_at (trustee_at new) c).found in
+      omega (arith, saw, one, after, most)
+
+  -- serving the places below n answers as many as it found
+  pub places_fall :
+      (n : ℕ) (was now : PlainTable V O R T) (old new : PlainTrustee V O R T) → ServesBelow (plain_theory kind) kind opening n was now old new
+      → asked (core_at now) + found_below n (trustee_at new) ≤ asked (core_at was)
+  unfolding ServesBelow found_below
+  places_fall zero was now old new none =
+      let same : asked (core_at now) ≡ asked (core_at was) = ap (λ (x : PlainTable V O R T). asked (core_at x)) none.0 in omega (arith, same)
+  places_fall (suc n) was now old new serves =
+      let (between, mid, below, mine, here) = serves in
+      let rest = places_fall n was between old mid below in
+      let one = place_falls n between now mid new here in
+      let e : n + 1 ≡ suc n = omega arith in
+      let more : found_below (suc n) (trustee_at new) ≡ found_below n (trustee_at mid) + cond (looks_at (trustee_at new) n).found 1 0 =
+      subst (λ k. found_below k (trustee_at new) ≡ found_below n (trustee_at mid) + cond (looks_at (trustee_at new) n).found 1 0) e
+      (found_one_more (plain_theory kind) kind opening n between now mid new here) in
+      omega (arith, rest, one, more)
+
+  -- where it found none at place c, none was there, and the boxes and the log stay
+  pub record PlacesStay (n : ℕ) (was now : PlainTable V O R T) (old new : PlainTrustee V O R T) : Type 0 where
+    pub none : (c : ℕ) → c < n → is_asked (slot_of (core_at now) c).box ≡ false
+    pub boxes : (c : ℕ) → (slot_of (core_at now) c).box ≡ (slot_of (core_at was) c).box
+    pub log : (trustee_at new).log ≡ (trustee_at old).log
+    pub opens : opening_at now ≡ opening_at was
+
+  none_found :
+      (c : ℕ) (was now : PlainTable V O R T) (old new : PlainTrustee V O R T) → IsTrusteeOf kind was old → opening_at was ≡ opening
+      → c < place_count opening.setup → (looks_at (trustee_at new) c).found ≡ false
+      → ServesPlace (plain_theory kind) kind opening c was now old new
+      → (is_asked (slot_of (core_at was) c).box ≡ false) × ((k : ℕ) → (slot_of (core_at now) k).box ≡ (slot_of (core_at was) k).box)
+      × ((trustee_at new).log ≡ (trustee_at old).log) × (opening_at now ≡ opening_at was)
+  none_found c was now old new mine opens lt none (inl passes) =
+      let free : is_asked (slot_of (core_at was) c).box ≡ false = passes.saw.may in (
+        free,
+        λ k. ap (λ (core : FullCore V O R T). (slot_of core k).box) passes.saw.core ∙ see_none (core_at was) c k free,
+        passes.sees.log,
+        passes.keeps.opening,
+      )
+  none_found c was now old new mine opens lt none (inr answers) =
+      let good : IsGoodTrustee kind opening (trustee_at old) = subst (λ s. IsGoodTrustee kind s (trustee_at old)) opens mine.is_good in
+      let told : true ≡ (looks_at (trustee_at new) c).found =
+      found_told kind opening c true (trustee_at old) (trustee_at answers.mid) (trustee_at new) good lt answers.takes.looks answers.replied.answered.looks in
+      absurd cc
+
+  is_none : (b : Bool) → one_of b ≡ 0 → b ≡ false
+  is_none true e = absurd (omega (arith, e))
+  is_none false e = refl
+
+  pub places_stay :
+      (n : ℕ) (was now : PlainTable V O R T) (old new : PlainTrustee V O R T) → opening_at was ≡ opening → IsTrusteeOf kind was old
+      → n ≤ place_count opening.setup → found_below n (trustee_at new) ≡ 0
+      → ServesBelow (plain_theory kind) kind opening n was now old new → PlacesStay n was now old new
+  unfolding ServesBelow found_below
+  places_stay zero was now old new opens mine most none is = record {
+    none = λ c lt. absurd (omega (arith, lt));
+    boxes = λ c. ap (λ (x : PlainTable V O R T). (slot_of (core_at x) c).box) is.0;
+    log = ap (λ (x : PlainTrustee V O R T). (trustee_at x).log) is.1;
+    opens = ap (λ (x : PlainTable V O R T). opening_at x) is.0;
+  }
+  places_stay (suc n) was now old new opens mine most none serves =
+      let (between, mid, below, its, here) = serves in
+      let e : n + 1 ≡ suc n = omega arith in
+      let more : found_below (suc n) (trustee_at new) ≡ found_below n (trustee_at mid) + cond (looks_at (trustee_at new) n).found 1 0 =
+      subst (λ k. found_below k (trustee_at new) ≡ found_below n (trustee_at mid) + cond (looks_at (trustee_at new) n).found 1 0) e
+      (found_one_more (plain_theory kind) kind opening n between now mid new here) in
+      let rest = places_stay n was between old mid opens mine (omega (arith, most)) (omega (arith, none, more)) below in
+      let nothing : (looks_at (trustee_at new) n).found ≡ false = is_none (looks_at (trustee_at new) n).found (omega (arith, none, more)) in
+      let (free, boxes, log, kept) = none_found n between now mid new its (rest.opens ∙ opens) (omega (arith, most)) nothing here in
+      record {
+        none = λ c lt.
+            elim (cases_eq c n) [
+              | inl at ↦ subst (λ k. is_asked (slot_of (core_at now) k).box ≡ false) (sym at) (ap (λ b. is_asked b) (boxes n) ∙ free)
+              | inr ne ↦ ap (λ b. is_asked b) (boxes c) ∙ rest.none c (omega (arith, lt, ne))
+            ];
+        boxes = λ c. boxes c ∙ rest.boxes c;
+        log = log ∙ rest.log;
+        opens = kept ∙ rest.opens;
+      }

@@ -1,0 +1,5 @@
+pub mod Whole
+pub mod Going
+pub mod Resting
+pub mod Opening
+pub mod Making

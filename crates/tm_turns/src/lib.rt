@@ -1,0 +1,13 @@
+//! Clients and trustees on one thread, which take turns.
+//!
+//! [`Turns::build`] makes them from a config and a list of objects, [`Turns::serve`] is one trustee's turn, and
+//! [`Turns::run`] makes turns until nothing moves. All is proved from the clauses of clients, tables and trustees.
+//! [`one_good_core`] states what the sides of one trustee show together.
+#![tactic(auto)]
+
+mod building;
+mod making;
+mod opened;
+mod turns;
+
+pub use turns::{Turns, calls_keep, one_good_core};
