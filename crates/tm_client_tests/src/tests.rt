@@ -1,0 +1,10 @@
+//! Small runs whose answers the rules give.
+
+mod echo;
+mod endings;
+mod gates;
+mod gifts;
+mod play;
+mod start;
+mod trusts;
+mod windows;
