@@ -14,7 +14,7 @@ use Rattle.tm_pair.specs.Views.{ClientView, new_client}
 use Rattle.tm_pair.specs.Calls.{Collects}
 use Rattle.tm_pair.specs.declared.table.Collected.{Collected}
 use Rattle.tm_pair.specs.declared.table.Collected.TheVariants.{Answers, Pending, Idle}
-use Rattle.tm_tests.specs.Sample.{the_name}
+use Rattle.tm_table_tests.specs.Sample.{the_name}
 use Rattle.tm_tests.specs.Driving.{counting, adds_and_releases, adds_more, entrusts_two, EndsNothing, MayBye}
 
 module _ {V O R T : Type 0} where

@@ -4,5 +4,3 @@ mod DrivenKept
 mod DrivenTurned
 mod LaunchingFirst
 mod LaunchingKept
-mod Pairs
-mod Sampling

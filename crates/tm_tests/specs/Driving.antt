@@ -19,7 +19,7 @@ use Rattle.tm_pair.specs.Theory.{Theory}
 use Rattle.tm_pair.specs.declared.table.Collected.{Collected}
 use Rattle.tm_pair.specs.declared.table.Collected.TheVariants.{Answers, Pending, Idle}
 use Rattle.tm_trustee.specs.Tables.{IsReady}
-use Rattle.tm_tests.specs.Sample.{the_name}
+use Rattle.tm_table_tests.specs.Sample.{the_name}
 use Rattle.tm_trustee.specs.declared.trustee.Trustee.{Trustee}
 
 abbrev pub small : Config

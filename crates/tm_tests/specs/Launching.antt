@@ -16,7 +16,7 @@ use Rattle.tm_model.specs.Opening.{opening_of}
 use Rattle.tm_pair.specs.Views.{ClientView}
 use Rattle.tm_pair.specs.Theory.{Theory}
 use Rattle.tm_tests.specs.Driving.{IsDriven}
-use Rattle.tm_tests.specs.Sample.{the_name}
+use Rattle.tm_table_tests.specs.Sample.{the_name}
 use Rattle.tm_trustee.specs.declared.trustee.Trustee.{Trustee}
 
 abbrev pub three : Config

@@ -1,4 +1,2 @@
 pub mod Driving
 pub mod Launching
-pub mod Sample
-pub mod Trying

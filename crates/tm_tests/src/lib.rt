@@ -1,5 +1,5 @@
-//! Tests that go through several crates of the runtime: the calls of a table in one thread, one by one, and a
-//! trustee's turns over such a table. Nothing in it runs elsewhere.
+//! Tests that go through several crates of the runtime: a trustee's turns over a table in one thread, and what may move
+//! between threads.
 #![tactic(auto)]
 
 #[cfg(test)]
