@@ -1,5 +1,6 @@
 pub mod Pairs
-pub mod Place
+pub mod Table
+pub mod Changes
 pub mod Chains
 pub mod Listed
 pub mod Latched

@@ -5,7 +5,8 @@ use Rattle.tm_latch.specs.declared.lines.Line.{Line}
 use Rattle.tm_latch.specs.declared.queues.Waiting.{Waiting}
 use Rattle.tm_latch.specs.declared.ticket.Ticket.{Ticket}
 use Rattle.tm_latch.specs.Tickets.{tickets_of}
-use Rattle.tm_latch.specs.Lines.{Lines, get, IsStrictlySorted}
+use Rattle.tm_latch.specs.declared.lines.Node.{Node}
+use Rattle.tm_latch.specs.Lines.{Pairs, get, IsTable}
 use Rattle.tm_latch.specs.Queues.{IsQueue}
 
 module _ {K : Type 0} where
@@ -16,10 +17,11 @@ module _ {K : Type 0} where
       (t : Ticket K) × (rest : List (Ticket K)) × (tickets ≡ t ∷ rest) × (line.ticket ≡ t.number) × IsQueue cells line.queue rest
 
   -- lines and cells stand for these tickets, each in one of them, and there is room for all that may be
-  pub record IsSound (lines : Lines) (capacity : ℕ) (cells : Slab (Waiting K)) (tickets : List (Ticket K)) (room : ℕ) : Type 0 where
-    pub sorted : IsStrictlySorted lines
+  pub record IsSound (firsts : List (Option ℕ)) (nodes : Slab Node) (cells : Slab (Waiting K)) (tickets : List (Ticket K)) (room : ℕ) : Type 0 where
+    pub lines : Pairs
+    pub table : IsTable firsts nodes lines
     pub each : (id : ℕ) → IsLine cells (get lines id) (tickets_of id tickets)
     pub count : length lines + slab_len cells ≡ length tickets
     pub most : length tickets ≤ room
-    pub lines_fit : room ≤ capacity
+    pub lines_fit : room ≤ nodes.capacity
     pub cells_fit : room ≤ cells.capacity

@@ -4,7 +4,7 @@ ghost use Rattle.tm_latch.specs.Tickets.{ticket_for, first_of, with_first, witho
 ghost use Rattle.tm_latch.specs.declared.entered.Entered.TheVariants.{Running, Queued};
 
 use crate::entered::Entered;
-use crate::lines::{Line, add_line, drop_line, line_of, set_line};
+use crate::lines::{Line, Lines};
 use crate::queues::{Waiting, append, take_first};
 use crate::ticket::{Ticket, after_enter, after_goes_on, after_leave};
 use slab::Slab;
@@ -16,20 +16,19 @@ use tm_ghost::GhostList;
 ///
 /// A contract sees the list of all these tickets in the order in which they entered, each with the
 /// task that it came with: the first of an object is the one that runs. All room is reserved when
-/// the latches are made, and no later call takes memory. The objects on which a ticket runs stand by
-/// rising id, so a call looks at a logarithm of them; one that lets the first ticket of an object
-/// begin, or its last one end, moves the entries of greater ids by one, 40 bytes each. No call looks
-/// at the tickets that wait but the first and the last of its object.
+/// the latches are made, and no later call takes memory. No call looks at the tickets that wait but
+/// the first and the last of its object. Nor does one look at the objects on which a ticket runs but
+/// its own and those whose ids leave the same when they are divided by one more than the room: none
+/// where the ids in use are less than that apart.
 #[derive(Drop)]
 pub struct Latches<K> {
-    lines: Vec<(u64, Line)>,
+    lines: Lines,
     cells: Slab<Waiting<K>>,
     room: u32,
     known: GhostList<Ticket<K>>,
 }
 
 impl<K> Model for Latches<K> {
-    ghost use Rattle.std.specs.Prelude.{vec_capacity};
     ghost use Rattle.tm_latch.specs.Tickets.{Known, known_code};
     ghost use Rattle.tm_latch.specs.Sound.{IsSound};
 
@@ -39,17 +38,17 @@ impl<K> Model for Latches<K> {
 
     ghost view = { λ a. record { tickets = a.known.items; room = a.room } };
 
-    ghost invariant = { λ a. IsSound a.lines.items (vec_capacity a.lines) a.cells a.known.items a.room };
+    ghost invariant = { λ a. IsSound a.lines.firsts.items a.lines.nodes a.cells a.known.items a.room };
 }
 
 impl<K: Drop> Latches<K> {
-    /// No ticket is known, and there is room for `room` of them: 40 bytes and a task with 40 bytes
+    /// No ticket is known, and there is room for `room` of them: 80 bytes and a task with 40 bytes
     /// for each. Want of memory is the one error.
     pub fn new(alloc: Global, room: u32) -> Result<Latches<K>, AllocError>
         ensures { IfOk result (λ a. a ≡ record { tickets = []; room = room }) }
     {
         Ok(Latches {
-            lines: Vec::with_capacity(alloc, room as usize)?,
+            lines: Lines::new(alloc, room)?,
             cells: Slab::with_capacity(alloc, room as usize)?,
             room,
             known: GhostList::new(),
@@ -71,7 +70,7 @@ impl<K: Drop> Latches<K> {
     pub fn holder(&self, id: u64) -> Option<u64>
         ensures { result ≡ option_map (λ t. t.number) (first_of id self.now.tickets) }
     {
-        match line_of(&self.lines, id) {
+        match self.lines.line_of(id) {
             Some(line) => Some(line.ticket),
             None => None,
         }
@@ -85,13 +84,13 @@ impl<K: Drop> Latches<K> {
         ensures entered { self.new ≡ record self.old { tickets = self.old.tickets ++ ticket_for id ticket task ∷ [] } }
     {
         let known = after_enter(&self.known, id, ticket, &task);
-        match line_of(&self.lines, id) {
+        match self.lines.line_of(id) {
             None => {
                 let line = Line {
                     ticket,
                     queue: None,
                 };
-                add_line(&mut self.lines, id, line);
+                self.lines.add(id, line);
                 self.known = known;
                 Entered::Running(task)
             }
@@ -101,7 +100,7 @@ impl<K: Drop> Latches<K> {
                     ticket: line.ticket,
                     queue: Some(ends),
                 };
-                set_line(&mut self.lines, id, line);
+                self.lines.set(id, line);
                 self.known = known;
                 Entered::Queued
             }
@@ -125,15 +124,15 @@ impl<K: Drop> Latches<K> {
         ensures left { self.new ≡ record self.old { tickets = without_first id self.old.tickets } }
     {
         self.known = after_leave(&self.known, id);
-        let Some(line) = line_of(&self.lines, id) else {
+        let Some(line) = self.lines.line_of(id) else {
             unreachable!()
         };
         let Some(ends) = line.queue else {
-            drop_line(&mut self.lines, id);
+            self.lines.remove(id);
             return None;
         };
         let (ticket, task, queue) = take_first(&mut self.cells, ends);
-        set_line(&mut self.lines, id, Line { ticket, queue });
+        self.lines.set(id, Line { ticket, queue });
         Some((ticket, task))
     }
 }

@@ -3,4 +3,4 @@ use Rattle.tm_latch.proofs.latches.Latches.new.Goals as goal
 
 pub invariant_of-result : goal.invariant_of-result
 invariant_of-result g c =
-    sound_none _ _ _ _ _ c.in_ok-with_capacity.ensures.items c.in_ok-with_capacity-2.ensures.empty c.new.ensures c.in_ok-with_capacity.ensures.capacity c.in_ok-with_capacity-2.ensures.capacity
+    sound_none _ _ _ _ _ c.in_ok-new.ensures.none c.in_ok-with_capacity.ensures.empty c.new-2.ensures c.in_ok-new.ensures.room c.in_ok-with_capacity.ensures.capacity
