@@ -66,9 +66,9 @@ module _ {K : Type 0} where
     pub sound_begin :
         (firsts' : List (Option ℕ)) (nodes' : Slab Node) (n : ℕ) (k : K) → get sound.lines id ≡ None
         → (now : Pairs) × IsTable firsts' nodes' now × SetsOnly sound.lines now id (record { ticket = n; queue = None }) × (length now ≡ length sound.lines + 1)
-        → nodes'.capacity ≡ nodes.capacity → length ts < room → IsSound firsts' nodes' cells (ts ++ ticket_for id n k ∷ []) room
+        → nodes'.capacity ≡ nodes.capacity → length firsts' ≡ length firsts → length ts < room → IsSound firsts' nodes' cells (ts ++ ticket_for id n k ∷ []) room
     unfolding IsLine IsQueue
-    sound_begin firsts' nodes' n k none (now, table, sets, len) fit few = record {
+    sound_begin firsts' nodes' n k none (now, table, sets, len) fit many few = record {
       lines = now;
       table = table;
       each = λ other. elim (cases_eq other id) [
@@ -77,6 +77,7 @@ module _ {K : Type 0} where
       ];
       count = omega (arith, sound.count, len, length-append ts (ticket_for id n k ∷ []));
       most = omega (arith, few, length-append ts (ticket_for id n k ∷ []));
+      buckets = rw many sound.buckets;
       lines_fit = rw fit sound.lines_fit;
       cells_fit = sound.cells_fit;
     }
@@ -85,11 +86,11 @@ module _ {K : Type 0} where
     pub sound_wait :
         (firsts' : List (Option ℕ)) (nodes' : Slab Node) (after : Slab (Waiting K)) (n : ℕ) (k : K) (line : Line) (ends : Ends) → get sound.lines id ≡ Some line
         → (now : Pairs) × IsTable firsts' nodes' now × SetsOnly sound.lines now id (record { ticket = line.ticket; queue = Some ends }) × (length now ≡ length sound.lines)
-        → nodes'.capacity ≡ nodes.capacity
+        → nodes'.capacity ≡ nodes.capacity → length firsts' ≡ length firsts
         → ((tickets : List (Ticket K)) → IsQueue cells line.queue tickets → IsQueue after (Some ends) (tickets ++ ticket_for id n k ∷ [])) → KeepsOthers id cells after
         → slab_len after ≡ slab_len cells + 1 → after.capacity ≡ cells.capacity → length ts < room → IsSound firsts' nodes' after (ts ++ ticket_for id n k ∷ []) room
     unfolding IsLine
-    sound_wait firsts' nodes' after n k line ends there (now, table, sets, len) fit own others count fits few = record {
+    sound_wait firsts' nodes' after n k line ends there (now, table, sets, len) fit many own others count fits few = record {
       lines = now;
       table = table;
       each = λ other. elim (cases_eq other id) [
@@ -103,6 +104,7 @@ module _ {K : Type 0} where
       ];
       count = omega (arith, sound.count, len, count, length-append ts (ticket_for id n k ∷ []));
       most = omega (arith, few, length-append ts (ticket_for id n k ∷ []));
+      buckets = rw many sound.buckets;
       lines_fit = rw fit sound.lines_fit;
       cells_fit = rw fits sound.cells_fit;
     }
@@ -125,6 +127,7 @@ module _ {K : Type 0} where
       ];
       count = omega (arith, sound.count, with_length id k ts);
       most = omega (arith, sound.most, with_length id k ts);
+      buckets = sound.buckets;
       lines_fit = sound.lines_fit;
       cells_fit = sound.cells_fit;
     }
@@ -132,10 +135,10 @@ module _ {K : Type 0} where
     -- the last ticket of an object ends
     pub sound_end :
         (firsts' : List (Option ℕ)) (nodes' : Slab Node) (line : Line) → get sound.lines id ≡ Some line → line.queue ≡ None
-        → (now : Pairs) × IsTable firsts' nodes' now × LosesOnly sound.lines now id × (length now + 1 ≡ length sound.lines) → nodes'.capacity ≡ nodes.capacity
+        → (now : Pairs) × IsTable firsts' nodes' now × LosesOnly sound.lines now id × (length now + 1 ≡ length sound.lines) → nodes'.capacity ≡ nodes.capacity → length firsts' ≡ length firsts
         → IsSound firsts' nodes' cells (without_first id ts) room
     unfolding IsLine IsQueue
-    sound_end firsts' nodes' line there none (now, table, loses, len) fit =
+    sound_end firsts' nodes' line there none (now, table, loses, len) fit many =
         let says = line_says line there in
         let fewer = left_length id ts says.0 says.1 says.2 in
         let alone : says.1 ≡ [] = subst (λ (queue : Option Ends). IsQueue cells queue says.1) none says.4 in
@@ -148,6 +151,7 @@ module _ {K : Type 0} where
           ];
           count = omega (arith, sound.count, len, fewer);
           most = omega (arith, sound.most, fewer);
+          buckets = rw many sound.buckets;
           lines_fit = rw fit sound.lines_fit;
           cells_fit = sound.cells_fit;
         }
@@ -172,11 +176,11 @@ module _ {K : Type 0} where
       pub sound_next :
           (firsts' : List (Option ℕ)) (nodes' : Slab Node) (after : Slab (Waiting K)) (n : ℕ) (k : K) (queue : Option Ends)
           → (now : Pairs) × IsTable firsts' nodes' now × SetsOnly sound.lines now id (record { ticket = n; queue = queue }) × (length now ≡ length sound.lines)
-          → nodes'.capacity ≡ nodes.capacity
+          → nodes'.capacity ≡ nodes.capacity → length firsts' ≡ length firsts
           → ((t : Ticket K) (rest : List (Ticket K)) → IsQueue cells (Some ends) (t ∷ rest) → (n ≡ t.number) × (k ≡ t.task) × IsQueue after queue rest)
           → KeepsOthers id cells after → slab_len after + 1 ≡ slab_len cells → after.capacity ≡ cells.capacity → IsSound firsts' nodes' after (without_first id ts) room
       unfolding IsLine
-      sound_next firsts' nodes' after n k queue (now, table, sets, len) fit own others count fits =
+      sound_next firsts' nodes' after n k queue (now, table, sets, len) fit many own others count fits =
           let says = line_says line there in
           let fewer = left_length id ts says.0 says.1 says.2 in
           let next = waiting_is in
@@ -192,6 +196,7 @@ module _ {K : Type 0} where
             ];
             count = omega (arith, sound.count, len, count, fewer);
             most = omega (arith, sound.most, fewer);
+            buckets = rw many sound.buckets;
             lines_fit = rw fit sound.lines_fit;
             cells_fit = rw fits sound.cells_fit;
           }
@@ -208,14 +213,15 @@ module _ {K : Type 0} where
 -- no ticket is known
 pub sound_none :
     {K : Type 0} (firsts : List (Option ℕ)) (nodes : Slab Node) (cells : Slab (Waiting K)) (ts : List (Ticket K)) (room : ℕ) → IsTable firsts nodes [] → cells.slots ≡ [] → ts ≡ []
-    → room ≤ nodes.capacity → room ≤ cells.capacity → IsSound firsts nodes cells ts room
+    → length firsts ≡ room + 1 → room ≤ nodes.capacity → room ≤ cells.capacity → IsSound firsts nodes cells ts room
 unfolding IsLine
-sound_none firsts nodes cells ts room table no_cells no_tickets lines_fit cells_fit = record {
+sound_none firsts nodes cells ts room table no_cells no_tickets buckets lines_fit cells_fit = record {
   lines = [];
   table = table;
   each = λ id. rw no_tickets refl;
   count = rw (no_cells, no_tickets) refl;
   most = rw no_tickets (omega arith);
+  buckets = buckets;
   lines_fit = lines_fit;
   cells_fit = cells_fit;
 }

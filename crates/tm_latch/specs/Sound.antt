@@ -16,12 +16,13 @@ module _ {K : Type 0} where
   IsLine cells (Some line) tickets =
       (t : Ticket K) × (rest : List (Ticket K)) × (tickets ≡ t ∷ rest) × (line.ticket ≡ t.number) × IsQueue cells line.queue rest
 
-  -- lines and cells stand for these tickets, each in one of them, and there is room for all that may be
+  -- lines and cells stand for these tickets, each in one of them, and there is room for all that may be, with one bucket more
   pub record IsSound (firsts : List (Option ℕ)) (nodes : Slab Node) (cells : Slab (Waiting K)) (tickets : List (Ticket K)) (room : ℕ) : Type 0 where
     pub lines : Pairs
     pub table : IsTable firsts nodes lines
     pub each : (id : ℕ) → IsLine cells (get lines id) (tickets_of id tickets)
     pub count : length lines + slab_len cells ≡ length tickets
     pub most : length tickets ≤ room
+    pub buckets : length firsts ≡ room + 1
     pub lines_fit : room ≤ nodes.capacity
     pub cells_fit : room ≤ cells.capacity

@@ -54,6 +54,7 @@ impl Lines {
     pub fn new(alloc: Global, room: u32) -> Result<Lines, AllocError>
         ensures none { IfOk result (λ a. IsTable a.firsts.items a.nodes []) }
         ensures room { IfOk result (λ a. room ≤ a.nodes.capacity) }
+        ensures buckets { IfOk result (λ a. length a.firsts.items ≡ room + 1) }
     {
         Ok(Lines {
             firsts: vec![in alloc; None; room as usize + 1]?,
@@ -85,6 +86,7 @@ impl Lines {
         requires room { HasRoomFor self.old.nodes 1 }
         ensures adds { (pairs : Pairs) → IsTable self.old.firsts.items self.old.nodes pairs → get pairs id ≡ None → (now : Pairs) × IsTable self.new.firsts.items self.new.nodes now × SetsOnly pairs now id line × (length now ≡ length pairs + 1) }
         ensures capacity { self.new.nodes.capacity ≡ self.old.nodes.capacity }
+        ensures buckets { length self.new.firsts.items ≡ length self.old.firsts.items }
     {
         let bucket = self.bucket(id);
         let next = self.firsts[bucket];
@@ -97,6 +99,7 @@ impl Lines {
         requires { (pairs : Pairs) × IsTable self.old.firsts.items self.old.nodes pairs × IsSome (get pairs id) }
         ensures sets { (pairs : Pairs) → IsTable self.old.firsts.items self.old.nodes pairs → IsSome (get pairs id) → (now : Pairs) × IsTable self.new.firsts.items self.new.nodes now × SetsOnly pairs now id line × (length now ≡ length pairs) }
         ensures capacity { self.new.nodes.capacity ≡ self.old.nodes.capacity }
+        ensures buckets { length self.new.firsts.items ≡ length self.old.firsts.items }
     {
         let Some(spot) = self.search(id) else {
             unreachable!()
@@ -109,6 +112,7 @@ impl Lines {
         requires { (pairs : Pairs) × IsTable self.old.firsts.items self.old.nodes pairs × IsSome (get pairs id) }
         ensures loses { (pairs : Pairs) → IsTable self.old.firsts.items self.old.nodes pairs → IsSome (get pairs id) → (now : Pairs) × IsTable self.new.firsts.items self.new.nodes now × LosesOnly pairs now id × (length now + 1 ≡ length pairs) }
         ensures capacity { self.new.nodes.capacity ≡ self.old.nodes.capacity }
+        ensures buckets { length self.new.firsts.items ≡ length self.old.firsts.items }
     {
         let Some(spot) = self.search(id) else {
             unreachable!()

@@ -10,7 +10,7 @@ pub invariant_of-self : goal.invariant_of-self
 invariant_of-self g c =
     let there = sym (c.line_of.ensures c.self.invariant.lines c.self.invariant.table) ∙ c.in-Some.is in
     rw c.after_leave-self-inside.ensures
-    (sound_end _ _ _ _ _ c.self.invariant c.args.id _ _ c.in-Some.line there c.in_default-queue.is (c.remove.ensures.loses c.self.invariant.lines c.self.invariant.table (rw there refl)) c.remove.ensures.capacity)
+    (sound_end _ _ _ _ _ c.self.invariant c.args.id _ _ c.in-Some.line there c.in_default-queue.is (c.remove.ensures.loses c.self.invariant.lines c.self.invariant.table (rw there refl)) c.remove.ensures.capacity c.remove.ensures.buckets)
 
 pub returns-in_default-queue-clause-next : goal.returns-in_default-queue-clause-next
 returns-in_default-queue-clause-next g c =
@@ -28,7 +28,7 @@ invariant_of-self-2 g c =
     let there = sym (c.line_of.ensures c.self.invariant.lines c.self.invariant.table) ∙ c.in-Some.is in
     let queue = queue_of_line _ _ _ _ _ c.self.invariant c.args.id c.in-Some.line there in
     rw c.after_leave-self-inside.ensures
-    (sound_next _ _ _ _ _ c.self.invariant c.args.id c.in-Some.line c.in-Some-queue.ends there c.in-Some-queue.is _ _ c.take_first-ticket.new.cells c.take_first-ticket.result.0 c.take_first-ticket.result.1 c.take_first-ticket.result.2 (c.set.ensures.sets c.self.invariant.lines c.self.invariant.table (rw there refl)) c.set.ensures.capacity took.own (took.others c.args.id (rw c.in-Some-queue.is at queue)) took.len took.capacity)
+    (sound_next _ _ _ _ _ c.self.invariant c.args.id c.in-Some.line c.in-Some-queue.ends there c.in-Some-queue.is _ _ c.take_first-ticket.new.cells c.take_first-ticket.result.0 c.take_first-ticket.result.1 c.take_first-ticket.result.2 (c.set.ensures.sets c.self.invariant.lines c.self.invariant.table (rw there refl)) c.set.ensures.capacity c.set.ensures.buckets took.own (took.others c.args.id (rw c.in-Some-queue.is at queue)) took.len took.capacity)
 
 pub returns-clause-next : goal.returns-clause-next
 returns-clause-next g c =
