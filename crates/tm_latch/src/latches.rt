@@ -16,10 +16,10 @@ use tm_ghost::GhostList;
 ///
 /// A contract sees the list of all these tickets in the order in which they entered, each with the
 /// task that it came with: the first of an object is the one that runs. All room is reserved when
-/// the latches are made, and no later call takes memory. No call looks at the tickets that wait but
-/// the first and the last of its object. Nor does one look at the objects on which a ticket runs but
-/// its own and those whose ids leave the same when they are divided by one more than the room: none
-/// where the ids in use are less than that apart.
+/// the latches are made, and no later call takes memory. A call takes constant time, and a look at
+/// each object on which a ticket runs whose id leaves the same as its own when it is divided by one
+/// more than the room. Where the ids in use lie no further apart than the room there is none. No
+/// call looks at the tickets that wait but the first and the last of its object.
 #[derive(Drop)]
 pub struct Latches<K> {
     lines: Lines,
