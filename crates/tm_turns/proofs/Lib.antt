@@ -27,3 +27,8 @@ pub mod Fronts
 pub mod Made
 pub mod Built
 pub mod Clients
+pub mod Following
+pub mod Shutting
+pub mod Counting
+pub mod Ended
+pub mod Closed

@@ -3,3 +3,4 @@ pub mod Going
 pub mod Resting
 pub mod Opening
 pub mod Making
+pub mod Closing

@@ -6,6 +6,7 @@
 #![tactic(auto)]
 
 mod building;
+mod closing;
 mod making;
 mod opened;
 mod turns;
