@@ -1,0 +1,5 @@
+mod Beginning
+mod Begun
+mod Standing
+mod Turned
+mod Whole
