@@ -63,11 +63,14 @@ module _ {V C D O R T : Type 0} (view : D → ClientView V O R T) where
     client = is.client;
     waits_room = h.waits_room ∙ is.waits_room;
     afters_room = h.afters_room ∙ is.afters_room;
+    launched_room = rw h.launched is.launched_room;
     names =
         ap names_of h.afters ∙ map-append (λ w. w.name) lane.afters.items ((record { after = after; name = name_of q }) ∷ [])
         ∙ ap (λ ns. ns ++ name_of q ∷ []) is.names
         ∙ sym (ap (map name_of) (unanswered_more lane becomes q after h) ∙ map-append name_of (unanswered view lane) (q ∷ []));
+    launched = rw (h.side, h.launched) is.launched;
     counting =
+        let same = ap (λ l. length l.items) h.launched in
         let more = ap length (unanswered_more lane becomes q after h) ∙ one_longer (unanswered view lane) q in
         let one = h.counting in
         let was = is.counting in
@@ -79,7 +82,6 @@ module _ {V C D O R T : Type 0} (view : D → ClientView V O R T) where
     last = λ s.
         let was = is.last (sym h.said ∙ s) in
         let both : true ≡ false = sym was.0 ∙ closes_not in absurd cc;
-    launches = rw h.side is.launches;
     out_accepted = rw h.side is.out_accepted;
     waits = rw h.waits (all-append IsAccepted lane.waits.items (q ∷ []) is.waits (accepted, tt));
     grants = rw h.waits (all-append (GrantsBelow opening.setup.config.clients) lane.waits.items (q ∷ []) is.grants (grant, tt));

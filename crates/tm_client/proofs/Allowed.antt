@@ -5,7 +5,7 @@ use Rattle.std.specs.declared.option.Option.TheVariants.{Some}
 use Rattle.std.proofs.lemmas.Option.{slice_get_within}
 use Rattle.tm_batch.specs.declared.limits.TheConstants.{WINDOW}
 use Rattle.tm_batch.specs.declared.message.Request.{Request}
-use Rattle.tm_batch.specs.declared.message.Request.TheVariants.{Entrust, Apply, Grant, Release, Reclaim}
+use Rattle.tm_batch.specs.declared.message.Request.TheVariants.{Entrust, Apply, Launch, Grant, Release, Reclaim}
 use Rattle.tm_model.specs.State.{State}
 use Rattle.tm_model.specs.Holds.{Names, gave}
 use Rattle.tm_model.specs.Orderly.{GrantsBelow}
@@ -67,6 +67,16 @@ module _ {V C D O R T : Type 0} where
   pub apply_may : (books : Books V C D O R T) (trust : Trust) (op : O) → MayApply books trust
       → MayAsk trust.trustee (Apply trust.name op) 0 books
   apply_may books trust op (held, is_open, room) = record {
+    free = open_and_room books trust.trustee is_open room;
+    accepted = tt;
+    grant = tt;
+    held = held_by books trust held.1;
+    by = refl;
+  }
+
+  pub launch_may : (books : Books V C D O R T) (trust : Trust) (task : T) → MayApply books trust
+      → MayAsk trust.trustee (Launch trust.name task) 0 books
+  launch_may books trust task (held, is_open, room) = record {
     free = open_and_room books trust.trustee is_open room;
     accepted = tt;
     grant = tt;

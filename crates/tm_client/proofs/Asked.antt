@@ -12,7 +12,7 @@ use Rattle.tm_client.specs.declared.lane.Lane.{Lane}
 use Rattle.tm_client.specs.declared.books.Books.{Books}
 use Rattle.tm_client.specs.Listing.{listed}
 use Rattle.tm_client.specs.Lanes.{out_room, bringing, HasAccepted, unanswered, IsLane}
-use Rattle.tm_client.specs.Clients.{come_of, entrusted_in, given, brought_in, lane_coming, lanes_coming, lanes_unanswered, lanes_counting, IsClient}
+use Rattle.tm_client.specs.Clients.{come_of, entrusted_in, given, brought_in, lane_coming, lanes_coming, lanes_unanswered, lanes_launched, lanes_counting, IsClient}
 use Rattle.tm_client.proofs.Elements.{set_cases, total_set}
 use Rattle.tm_client.proofs.Accepting.{bringing-append, unanswered_more, accepting_keeps}
 use Rattle.tm_client.proofs.Allowed.{MayAsk, Asks}
@@ -100,10 +100,12 @@ module _ {V C D O R T : Type 0} (view : D → ClientView V O R T) where
         omega arith
         )
 
-    counting_is : length new.arrived.items + lanes_unanswered view new.lanes.items ≡ lanes_counting view new.lanes.items
+    counting_is : length new.arrived.items + (lanes_unanswered view new.lanes.items + lanes_launched view new.lanes.items) ≡ lanes_counting view new.lanes.items
     counting_is =
         rw (a.arrived, a.lanes) (
         let set = total_set (λ lane. length (unanswered view lane)) old.lanes.items t a.lane a.becomes a.of_lane in
+        let waits = total_set (λ lane. length lane.launched.items) old.lanes.items t a.lane a.becomes a.of_lane in
+        let still = ap (λ l. length l.items) a.accepts.launched in
         let counts = total_set (λ lane. lane.counting) old.lanes.items t a.lane a.becomes a.of_lane in
         let longer = ap length (unanswered_more view a.lane a.becomes q after a.accepts) ∙ length-append (unanswered view a.lane) (q ∷ []) in
         let one = a.accepts.counting in

@@ -22,8 +22,8 @@ use Rattle.tm_client.specs.declared.books.Books.{Books}
 use Rattle.tm_client.specs.Lanes.{unanswered, AreHeld, IsLane}
 use Rattle.tm_client.specs.Listing.{hold_of, listed, held_count, held_at, Gains}
 use Rattle.tm_client.specs.Taking.{IsListed}
-use Rattle.tm_client.specs.Clients.{come_of, entrusted_in, given, lane_coming, lanes_coming, lanes_unanswered, lanes_counting, IsClient}
-use Rattle.tm_client.proofs.Receiving.{none_left}
+use Rattle.tm_client.specs.Clients.{come_of, entrusted_in, given, lane_coming, lanes_coming, lanes_unanswered, lanes_launched, lanes_counting, IsClient}
+use Rattle.tm_client.proofs.Told.{none_left}
 use Rattle.tm_client.proofs.Listed.{at_other, gains_listed, listed_has}
 use Rattle.tm_client.specs.Begun.{named_at, StandsIn, new_lane, IsTrustOf, IsFirstTrust, MayBegin, AreOpenings, HasBegun, IsFirstClient}
 
@@ -123,14 +123,15 @@ module _ {V C D O R T : Type 0} (view : D → ClientView V O R T) (number : ℕ)
     client = lt;
     waits_room = refl;
     afters_room = refl;
+    launched_room = refl;
     names = rw e refl;
+    launched = rw e refl;
     counting = rw e refl;
     window = omega arith;
     out = rw e refl;
     room = rw e refl;
     said = rw e refl;
     last = λ said. absurd cc;
-    launches = rw e refl;
     out_accepted = rw e tt;
     waits = tt;
     grants = tt;
@@ -146,7 +147,7 @@ module _ {V C D O R T : Type 0} (view : D → ClientView V O R T) (number : ℕ)
       let (other, is, new, lt) = lane_of sides t lane all.1 e in (other, is, new, omega (arith, lt))
 
 module _ {V D O R T : Type 0} (C : Type 0) (view : D → ClientView V O R T) (number : ℕ) where
-  -- nothing comes by any of them, nothing is unanswered and nothing counts
+  -- nothing comes by any of them, nothing is unanswered, nothing lacks its completion and nothing counts
   none_coming : (sides : List D) → AllByRecursion (λ side. view side ≡ new_client number) sides → lanes_coming {C = C} view (map new_lane sides) ≡ 0
   none_coming [] all = refl
   none_coming (side ∷ sides) all =
@@ -164,6 +165,10 @@ module _ {V D O R T : Type 0} (C : Type 0) (view : D → ClientView V O R T) (nu
   none_counting : (sides : List D) → lanes_counting {V = V} {O = O} {R = R} {T = T} {C = C} view (map new_lane sides) ≡ 0
   none_counting [] = refl
   none_counting (side ∷ sides) = let rest = none_counting sides in omega (arith, rest)
+
+  none_launched : (sides : List D) → lanes_launched {V = V} {O = O} {R = R} {T = T} {C = C} view (map new_lane sides) ≡ 0
+  none_launched [] = refl
+  none_launched (side ∷ sides) = let rest = none_launched sides in omega (arith, rest)
 
 module _ {V D O R T : Type 0} (view : D → ClientView V O R T) (number : ℕ) where
   -- it gave nothing away, and what came to it is what the opening gave it
@@ -243,7 +248,8 @@ module _ {V C D O R T : Type 0} (view : D → ClientView V O R T) (number : ℕ)
           rw (begun.lanes, nothing_arrived) (
           let none = none_unanswered C view number sides new in
           let zero = none_counting C view number sides in
-          omega (arith, none, zero)
+          let launched = none_launched C view number sides in
+          omega (arith, none, zero, launched)
           );
       arrived_room = ap (λ b. b.capacity) begun.arrived ∙ ap (λ n. WINDOW * n) (sym as_many);
     }

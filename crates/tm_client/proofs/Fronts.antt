@@ -1,6 +1,6 @@
 -- The front of a list, an element at a time.
-use Rattle.std.proofs.Common.{◌≡◌, ℕ, zero, suc, ◌+◌, ◌<◌, List, [], ◌∷◌, ◌++◌, take, drop, length, true, refl, sym, ◌∙◌, ap, subst, arith}
-use Rattle.std.specs.Prelude.{◌==◌, IsOk, OnOk, IsSomeAnd, slice_get, slice_set}
+use Rattle.std.proofs.Common.{◌≡◌, ℕ, zero, suc, ◌+◌, ◌<◌, List, [], ◌∷◌, ◌++◌, take, drop, length, Bool, true, false, not, refl, sym, ◌∙◌, ap, subst, arith}
+use Rattle.std.specs.Prelude.{◌==◌, ◌≢◌, ◌↔◌, IsTrue, IsOk, OnOk, IsSomeAnd, slice_get, slice_set}
 use Rattle.std.specs.declared.option.Option.{Option}
 use Rattle.std.specs.declared.option.Option.TheVariants.{None, Some}
 use Rattle.tm_core.proofs.CallerLemmas.{is_same}
@@ -58,3 +58,8 @@ module _ {X : Type 0} where
   set_same [] i x e = absurd cc
   set_same (y ∷ xs) zero x e = let same : x ≡ y = cc in ap (λ z. z ∷ xs) same
   set_same (y ∷ xs) (suc i) x e = ap (λ l. y ∷ l) (set_same xs i x e)
+
+-- some stand in a list that a test does not find empty
+pub some_in : {X : Type 0} (xs : List X) (b : Bool) → b ≡ (length xs == 0) → IsTrue (not b) ↔ (xs ≢ [])
+some_in xs true e = (λ t. absurd cc, λ ne. absurd (ne (empty_of xs e)))
+some_in xs false e = (λ t none. let both : false ≡ true = e ∙ ap (λ l. length l == 0) none in cc, λ ne. refl)

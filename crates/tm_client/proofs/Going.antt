@@ -4,31 +4,21 @@ use Rattle.std.specs.List.{AllByRecursion}
 use Rattle.tm_seq.specs.Kind.{Kind}
 use Rattle.tm_batch.specs.declared.message.Request.{Request}
 use Rattle.tm_batch.specs.declared.message.Request.TheVariants.{Entrust, Apply, Launch, Grant, Release, Reclaim, Bye}
-use Rattle.tm_model.specs.Holds.{Names, has_bye, launches_in, came}
+use Rattle.tm_model.specs.Holds.{Names, has_bye, came}
 use Rattle.tm_model.specs.Orderly.{GrantsBelow}
 use Rattle.tm_core.proofs.Tallies.{launches_in-append, came_same}
 use Rattle.tm_client.specs.Lanes.{IsAccepted}
 use Rattle.tm_client.specs.SideLaws.{WaitsMayGo, RestIsHeld, ByesMayGo}
-use Rattle.tm_client.proofs.Living.{as_many_came, ended_none}
+use Rattle.tm_client.proofs.Living.{as_many_came}
 
 pub all_front : {X : Type 0} (P : X → Type 0) (xs ys : List X) → AllByRecursion P (xs ++ ys) → AllByRecursion P xs
 all_front P [] ys h = tt
 all_front P (x ∷ xs) ys h = (h.0, all_front P xs ys h.1)
 
 module _ {V O R T : Type 0} where
-  pub accepted_launches : (qs : List (Request V O R T)) → AllByRecursion IsAccepted qs → launches_in qs ≡ 0
-  accepted_launches [] h = refl
-  accepted_launches (Launch n task ∷ qs) h = absurd h.0
-  accepted_launches (Entrust v ∷ qs) h = accepted_launches qs h.1
-  accepted_launches (Apply n op ∷ qs) h = accepted_launches qs h.1
-  accepted_launches (Grant n d ∷ qs) h = accepted_launches qs h.1
-  accepted_launches (Release n ∷ qs) h = accepted_launches qs h.1
-  accepted_launches (Reclaim n ∷ qs) h = accepted_launches qs h.1
-  accepted_launches (Bye ∷ qs) h = absurd h.0
-
   pub accepted_no_bye : (qs : List (Request V O R T)) → AllByRecursion IsAccepted qs → has_bye qs ≡ false
   accepted_no_bye [] h = refl
-  accepted_no_bye (Launch n task ∷ qs) h = absurd h.0
+  accepted_no_bye (Launch n task ∷ qs) h = accepted_no_bye qs h.1
   accepted_no_bye (Entrust v ∷ qs) h = accepted_no_bye qs h.1
   accepted_no_bye (Apply n op ∷ qs) h = accepted_no_bye qs h.1
   accepted_no_bye (Grant n d ∷ qs) h = accepted_no_bye qs h.1
@@ -56,12 +46,10 @@ module _ {V O R T : Type 0} where
     pub waits_may_go : WaitsMayGo kind
     waits_may_go opening view b rest good client launches last accepted grants held =
         let own = all_front IsAccepted b rest accepted in
-        let joined = launches_in-append view.sent b in
-        let none = accepted_launches b own in
         record {
           held = λ before after q id e names. held before (after ++ rest) q id (ap (λ l. l ++ rest) e ∙ append_assoc before (q ∷ after) rest) names;
           grants = all_front (GrantsBelow opening.setup.config.clients) b rest grants;
-          launches = omega (arith, joined, none, launches);
+          launches = launches;
           bye = λ e. absurd (let no = accepted_no_bye b own in cc);
           last = λ e. none_front b rest (last e);
           trustee = λ ge. absurd (omega (arith, ge, client));
@@ -82,12 +70,11 @@ module _ {V O R T : Type 0} where
     pub byes_may_go : ByesMayGo kind
     byes_may_go opening view good client launches still =
         let joined = launches_in-append view.sent (Bye ∷ []) in
-        let ended = ended_none kind opening view good still launches in
         record {
           held = λ before after q id e names. absurd (bye_names before after q id e names);
           grants = (tt, tt);
           launches = omega (arith, joined, launches);
-          bye = λ e. (refl, launches ∙ sym ended);
+          bye = λ e. (refl, launches);
           last = λ e. absurd cc;
           trustee = λ ge. absurd (omega (arith, ge, client));
         }

@@ -34,7 +34,7 @@ module _ {V C D O R T : Type 0} where
       (was : IsLane view opening c n lane) (good : IsGoodClient kind opening (view lane.side)) (b : List (Request V O R T)) (becomes : Lane V C D O R T) where
     pub left_may_go : Leaves b lane becomes → MaySend opening (view lane.side) b
     left_may_go (inl w) = front_may_go kind view opening c n lane was good b becomes.waits.items (fronts b lane becomes w.1 w.2)
-    left_may_go (inr (inl y)) = subst (MaySend opening (view lane.side)) (sym y.1) (bye_may_go kind view opening c n lane was good y.0.2)
+    left_may_go (inr (inl y)) = subst (MaySend opening (view lane.side)) (sym y.1) (bye_may_go kind view opening c n lane was good y.0.2 y.0.3)
     left_may_go (inr (inr f)) = front_may_go kind view opening c n lane was good b becomes.waits.items (nothing b lane becomes f.0.0 f.1 f.2)
 
   -- a lane says of its Bye what its side says

@@ -5,6 +5,7 @@ pub mod Asked
 pub mod Beginning
 pub mod Bringing
 pub mod Elements
+pub mod Ended
 pub mod Fronts
 pub mod GiftTaken
 pub mod Going
@@ -18,4 +19,6 @@ pub mod Receiving
 pub mod Seeing
 pub mod Sending
 pub mod Taken
+pub mod Tickets
+pub mod Told
 pub mod Turned

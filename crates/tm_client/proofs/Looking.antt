@@ -5,6 +5,7 @@ use Rattle.std.specs.declared.option.Option.{Option}
 use Rattle.std.specs.declared.option.Option.TheVariants.{None, Some}
 use Rattle.std.proofs.lemmas.Option.{slice_get_within}
 use Rattle.tm_batch.specs.declared.limits.TheConstants.{WINDOW}
+use Rattle.tm_batch.specs.declared.message.Request.{Request}
 use Rattle.tm_batch.specs.declared.message.AnswerBatch.{AnswerBatch}
 use Rattle.tm_model.specs.Lists.{IsPrefix}
 use Rattle.tm_model.specs.State.{State}
@@ -19,10 +20,14 @@ use Rattle.tm_client.specs.Asking.{At}
 use Rattle.tm_client.specs.Listing.{listed}
 use Rattle.tm_client.specs.Clients.{total, come_of, entrusted_in, given, lane_coming, lanes_counting, IsClient}
 use Rattle.tm_client.specs.Receiving.{MayReceive, HasReceived, HasTakenIn}
-use Rattle.tm_client.specs.Turns.{arrivals_of, gifts_from}
+use Rattle.tm_client.specs.Launches.{ended_tickets, launches_left, arrivals_of, finished_of, with_told}
+use Rattle.tm_client.specs.Turns.{gifts_from}
+use Rattle.tm_client.specs.SideLaws.{Brings}
+use Rattle.tm_client.specs.Tickets.{EndsTickets}
 use Rattle.tm_client.proofs.Accepting.{as_many_wait}
 use Rattle.tm_client.proofs.Elements.{set_cases, same_element, total_set, total_most}
 use Rattle.tm_client.proofs.Fronts.{set_there}
+use Rattle.tm_client.proofs.Told.{once}
 
 module _ {X : Type 0} where
   -- one of the numbers of a sum is at most the sum
@@ -74,8 +79,10 @@ module _ {V O R T : Type 0} where
 module _ {V C D O R T : Type 0} (view : D → ClientView V O R T) where
   -- a client has room for what came
   pub may_receive : (openings : ℕ → State V O R T) (t : ℕ) (a : AnswerBatch V O R T) (lane : Lane V C D O R T) (books : Books V C D O R T) (new : ClientView V O R T)
-      → IsClient view openings books → slice_get books.lanes.items t ≡ Some lane → Gets a (view lane.side) new → MayReceive a lane books
-  may_receive openings t a lane books new is there gets =
+      → (is : IsClient view openings books) (there : slice_get books.lanes.items t ≡ Some lane) (run : List (Request V O R T))
+      → (view lane.side).sent ≡ run ++ out_requests (view lane.side).out → Gets a (view lane.side) new
+      → Brings (openings t) (out_requests (view lane.side).out) a (view lane.side) new → EndsTickets a (view lane.side) new → MayReceive a lane books
+  may_receive openings t a lane books new is there run ran_is gets brings ends =
       let was = is.lanes t lane there in
       let fit = gifts_fit a (view lane.side) new gets in
       let room = was.room in
@@ -87,8 +94,17 @@ module _ {V C D O R T : Type 0} (view : D → ClientView V O R T) where
             total_most (λ lane. lane.counting) WINDOW books.lanes.items (λ u other at. (is.lanes u other at).window) in
             let own = one_of_total (λ lane. length (unanswered view lane)) books.lanes.items t lane there in
             let names = as_many_wait view (openings t) books.number (come_of t books.arrived.items) lane was in
+            let launched = one_of_total (λ lane. length lane.launched.items) books.lanes.items t lane there in
             let capacity = is.arrived_room in
-            omega (arith, counting, most, own, names, capacity);
+            omega (arith, counting, most, own, launched, names, capacity);
+        launched =
+            let names = as_many_wait view (openings t) books.number (come_of t books.arrived.items) lane was in
+            let counting = was.counting in
+            let window = was.window in
+            let capacity = was.launched_room in
+            omega (arith, names, counting, window, capacity);
+        once = once view openings t a lane books is there new run ran_is (as_many a (view lane.side) new gets) brings ends;
+        ended = ends.ended;
         gifts =
             let all = is.most in
             let reserved = is.gifts_room in
@@ -107,6 +123,9 @@ module _ {V C D O R T : Type 0} (view : D → ClientView V O R T) where
       let now : slice_get mid.lanes.items t ≡ Some looked = ap (λ xs. slice_get xs t) lanes_are ∙ set_there old.lanes.items t looked within in
       let still : MayReceive a looked mid = record {
         arrived = rw (ap (λ b. b.arrived) rest) may.arrived;
+        launched = may.launched;
+        once = may.once;
+        ended = may.ended;
         gifts = rw (ap (λ b. b.gifts) rest) may.gifts;
         fit = may.fit;
         coming = rw (ap (λ b. b.coming) rest) may.coming;
@@ -147,8 +166,11 @@ module _ {V C D O R T : Type 0} (view : D → ClientView V O R T) where
           out = h.out;
           room = h.room;
           arrived =
-              h.arrived ∙ ap (λ l. mid.arrived.items ++ arrivals_of t l.afters.items a.answers.items) lane_is
-              ∙ ap (λ b. b.arrived.items ++ arrivals_of t lane.afters.items a.answers.items) rest;
+              h.arrived
+              ∙ ap (λ l. mid.arrived.items ++ (arrivals_of t l.afters.items a.answers.items ++ finished_of t (with_told l a) a.completions.items)) lane_is
+              ∙ ap (λ b. b.arrived.items ++ (arrivals_of t lane.afters.items a.answers.items ++ finished_of t (with_told lane a) a.completions.items)) rest;
+          launched = h.launched ∙ ap (λ l. launches_left (ended_tickets a.completions.items) (with_told l a)) lane_is;
+          launched_room = h.launched_room ∙ ap (λ l. l.launched.capacity) lane_is;
           arrived_room = h.arrived_room ∙ ap (λ b. b.arrived.capacity) rest;
           gifts = h.gifts ∙ ap (λ b. b.gifts.items ++ gifts_from t b.number a.gifts.items) rest;
           gifts_room = h.gifts_room ∙ ap (λ b. b.gifts.capacity) rest;
@@ -203,14 +225,15 @@ module _ {V C D O R T : Type 0} (view : D → ClientView V O R T) where
       client = was.client;
       waits_room = was.waits_room;
       afters_room = was.afters_room;
+      launched_room = was.launched_room;
       names = rw same_out was.names;
+      launched = rw pending.got was.launched;
       counting = rw same_out was.counting;
       window = was.window;
       out = rw same_out was.out;
       room = rw same_out was.room;
       said = rw pending.sent was.said;
       last = was.last;
-      launches = rw pending.sent was.launches;
       out_accepted = rw same_out was.out_accepted;
       waits = was.waits;
       grants = was.grants;
@@ -269,6 +292,7 @@ module _ {V C D O R T : Type 0} (view : D → ClientView V O R T) where
       gifts = rw (gifts_are, same_count, number_is) is.gifts;
       counting = rw (arrived_is, lanes_are) (
           let set = total_set (λ lane. length (unanswered view lane)) old.lanes.items t lane becomes there in
+          let waits = total_set (λ lane. length lane.launched.items) old.lanes.items t lane becomes there in
           let counts = total_set (λ lane. lane.counting) old.lanes.items t lane becomes there in
           let same = ap length same_unanswered in
           let before = is.counting in

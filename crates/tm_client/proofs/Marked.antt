@@ -22,14 +22,15 @@ module _ {V C D O R T : Type 0} (view : D → ClientView V O R T) where
     client = is.client;
     waits_room = is.waits_room;
     afters_room = is.afters_room;
+    launched_room = is.launched_room;
     names = is.names;
+    launched = is.launched;
     counting = is.counting;
     window = is.window;
     out = is.out;
     room = is.room;
     said = is.said;
     last = λ s. (more (is.last s).0, (is.last s).1);
-    launches = is.launches;
     out_accepted = is.out_accepted;
     waits = is.waits;
     grants = is.grants;
@@ -81,6 +82,9 @@ module _ {V C D O R T : Type 0} (view : D → ClientView V O R T) where
     same_length : length (unanswered view becomes) ≡ length (unanswered view a.lane)
     same_length = refl
 
+    same_launched : length becomes.launched.items ≡ length a.lane.launched.items
+    same_launched = refl
+
     same_counting : becomes.counting ≡ a.lane.counting
     same_counting = refl
 
@@ -102,8 +106,10 @@ module _ {V C D O R T : Type 0} (view : D → ClientView V O R T) where
       gifts = rw (a.rest.gifts, as_many, a.rest.number) is.gifts;
       counting = rw (a.rest.arrived, a.lanes) (
           let set = total_set (λ lane. length (unanswered view lane)) old.lanes.items t a.lane becomes a.of_lane in
+          let waits = total_set (λ lane. length lane.launched.items) old.lanes.items t a.lane becomes a.of_lane in
           let counts = total_set (λ lane. lane.counting) old.lanes.items t a.lane becomes a.of_lane in
           let same = same_length in
+          let still = same_launched in
           let equal = same_counting in
           let before = is.counting in
           omega arith

@@ -1,14 +1,16 @@
 -- A client that published what was due stays a client.
-use Rattle.std.proofs.Common.{◌≡◌, ◌≢◌, ℕ, ◌+◌, ◌<◌, true, false, List, [], ◌∷◌, ◌++◌, length, map, inl, inr, refl, sym, ◌∙◌, ap, subst, arith, append_assoc, append-nil, length-append, length-set}
+use Rattle.std.proofs.Common.{◌≡◌, ◌≢◌, ℕ, ◌+◌, ◌<◌, ◌≤◌, true, false, List, [], ◌∷◌, ◌++◌, length, map, inl, inr, refl, sym, ◌∙◌, ap, subst, arith, append_assoc, append-nil, length-append, length-set}
 use Rattle.std.specs.Prelude.{slice_get}
 use Rattle.std.specs.List.{AllByRecursion}
 use Rattle.std.specs.declared.option.Option.TheVariants.{None, Some}
 use Rattle.std.proofs.lemmas.Option.{slice_get_within}
+use Rattle.std.proofs.lemmas.List.{length-map}
 use Rattle.tm_seq.specs.Kind.{Kind}
+use Rattle.tm_batch.specs.declared.limits.TheConstants.{WINDOW}
 use Rattle.tm_batch.specs.declared.message.Request.{Request}
 use Rattle.tm_batch.specs.declared.message.Request.TheVariants.{Entrust, Apply, Launch, Grant, Release, Reclaim, Bye}
 use Rattle.tm_model.specs.State.{State}
-use Rattle.tm_model.specs.Holds.{has_bye, launches_in, gave, came}
+use Rattle.tm_model.specs.Holds.{has_bye, launches_in, gave, ended_in, came}
 use Rattle.tm_model.specs.Orderly.{GrantsBelow}
 use Rattle.tm_core.proofs.Tallies.{gave-append, launches_in-append, bye_at, came_same}
 use Rattle.tm_pair.specs.Views.{ClientView}
@@ -17,13 +19,15 @@ use Rattle.tm_pair.specs.Calls.{MaySend, Publishes}
 use Rattle.tm_client.specs.declared.lane.Lane.{Lane}
 use Rattle.tm_client.specs.declared.books.Books.{Books}
 use Rattle.tm_client.specs.Lanes.{asks_in, out_requests, out_room, bringing, IsAccepted, AreHeld, name_of, names_of, unanswered, IsLane}
+use Rattle.tm_client.specs.Launches.{waiting_tickets}
 use Rattle.tm_client.specs.Listing.{listed}
-use Rattle.tm_client.specs.Clients.{come_of, entrusted_in, given, brought_in, lane_coming, lanes_coming, lanes_unanswered, lanes_counting, IsClient}
+use Rattle.tm_client.specs.Clients.{come_of, entrusted_in, given, brought_in, lane_coming, lanes_coming, lanes_unanswered, lanes_launched, lanes_counting, IsClient}
 use Rattle.tm_client.specs.Sending.{HasGone}
 use Rattle.tm_client.proofs.Elements.{set_cases, total_set}
 use Rattle.tm_client.proofs.Arriving.{no_bye_asks}
+use Rattle.tm_client.proofs.Tickets.{tickets_tell}
 use Rattle.tm_client.proofs.Living.{as_many_came}
-use Rattle.tm_client.proofs.Going.{all_front, accepted_launches, accepted_no_bye, waits_may_go, rest_is_held, byes_may_go}
+use Rattle.tm_client.proofs.Going.{all_front, accepted_no_bye, waits_may_go, rest_is_held, byes_may_go}
 
 all_behind : {X : Type 0} (P : X → Type 0) (xs ys : List X) → AllByRecursion P (xs ++ ys) → AllByRecursion P ys
 all_behind P [] ys h = h
@@ -48,6 +52,16 @@ module _ {V O R T : Type 0} where
   still_none (Reclaim n ∷ xs) ys e = still_none xs ys e
   still_none (Bye ∷ xs) ys e = refl
 
+  few_launches : (qs : List (Request V O R T)) → launches_in qs ≤ length qs
+  few_launches [] = omega arith
+  few_launches (Launch n task ∷ qs) = let more = few_launches qs in omega (arith, more)
+  few_launches (Entrust v ∷ qs) = let more = few_launches qs in omega (arith, more)
+  few_launches (Apply n op ∷ qs) = let more = few_launches qs in omega (arith, more)
+  few_launches (Grant n d ∷ qs) = let more = few_launches qs in omega (arith, more)
+  few_launches (Release n ∷ qs) = let more = few_launches qs in omega (arith, more)
+  few_launches (Reclaim n ∷ qs) = let more = few_launches qs in omega (arith, more)
+  few_launches (Bye ∷ qs) = let more = few_launches qs in omega (arith, more)
+
 module _ {V C D O R T : Type 0} (kind : Kind V O R T) (view : D → ClientView V O R T) (opening : State V O R T) (c n : ℕ) (lane : Lane V C D O R T)
     (was : IsLane view opening c n lane) (good : IsGoodClient kind opening (view lane.side)) where
   -- nothing waits behind a Bye
@@ -58,16 +72,44 @@ module _ {V C D O R T : Type 0} (kind : Kind V O R T) (view : D → ClientView V
       let joined = length-append (asks_in (out_requests (view lane.side).out)) lane.waits.items in
       none_long lane.waits.items (omega (arith, none, counts, joined))
 
+  -- as many launches lack their completion as their tickets wait
+  as_many_launched : length lane.launched.items ≡ length (waiting_tickets (view lane.side).got)
+  as_many_launched = sym (length-map lane.launched.items (λ l. l.ticket)) ∙ ap length was.launched
+
+  -- where nothing is out, the launches that were sent and have not ended are those of the lane
+  launches_are : (view lane.side).out ≡ None → launches_in (view lane.side).sent ≡ ended_in (view lane.side).got + length lane.launched.items
+  launches_are free =
+      let told = (tickets_tell kind opening (view lane.side) good).launches in
+      let none = ap (λ o. launches_in (out_requests o)) free in
+      let many = as_many_launched in
+      omega (arith, told, none, many)
+
+  -- no more launches go with the front of what waits than the window has room for
+  launches_fit : (b rest : List (Request V O R T)) → lane.waits.items ≡ b ++ rest → (view lane.side).out ≡ None
+      → launches_in ((view lane.side).sent ++ b) ≤ WINDOW + ended_in (view lane.side).got
+  launches_fit b rest parts free =
+      let all = launches_in-append (view lane.side).sent b in
+      let are = launches_are free in
+      let few = few_launches b in
+      let waits = ap length parts ∙ length-append b rest in
+      let joined = length-append (asks_in (out_requests (view lane.side).out)) lane.waits.items in
+      let counts = was.counting in
+      let window = was.window in
+      omega (arith, all, are, few, waits, joined, counts, window)
+
   -- the front of what waits may be sent
   pub front_may_go : (b rest : List (Request V O R T)) → lane.waits.items ≡ b ++ rest → MaySend opening (view lane.side) b
   front_may_go b rest parts free =
-      waits_may_go kind opening (view lane.side) b rest good (rw was.place was.client) was.launches (λ bye. sym parts ∙ none_behind bye)
+      waits_may_go kind opening (view lane.side) b rest good (rw was.place was.client) (launches_fit b rest parts free) (λ bye. sym parts ∙ none_behind bye)
       (subst (AllByRecursion IsAccepted) parts was.waits) (subst (AllByRecursion (GrantsBelow opening.setup.config.clients)) parts was.grants)
       (subst (AreHeld opening (view lane.side)) parts was.held)
 
   -- and so may a Bye
-  pub bye_may_go : lane.said ≡ false → MaySend opening (view lane.side) (Bye ∷ [])
-  bye_may_go unsaid free = byes_may_go kind opening (view lane.side) good (rw was.place was.client) was.launches (sym was.said ∙ unsaid)
+  pub bye_may_go : lane.said ≡ false → lane.counting ≡ 0 → MaySend opening (view lane.side) (Bye ∷ [])
+  bye_may_go unsaid nothing free =
+      let are = launches_are free in
+      let counts = was.counting in
+      byes_may_go kind opening (view lane.side) good (rw was.place was.client) (omega (arith, are, counts, nothing)) (sym was.said ∙ unsaid)
 
 module _ {V C D O R T : Type 0} (kind : Kind V O R T) (view : D → ClientView V O R T) (openings : ℕ → State V O R T) (t : ℕ)
     (b : List (Request V O R T)) (room : ℕ) (lane becomes : Lane V C D O R T) (old new : Books V C D O R T) (is : IsClient view openings old)
@@ -90,7 +132,6 @@ module _ {V C D O R T : Type 0} (kind : Kind V O R T) (view : D → ClientView V
     unanswered_is : unanswered view becomes ≡ lane.waits.items
     said : becomes.said ≡ has_bye (view becomes.side).sent
     last : becomes.said ≡ true → (becomes.closing ≡ true) × (becomes.counting ≡ 0)
-    launches : launches_in (view becomes.side).sent ≡ 0
     out_accepted : AllByRecursion IsAccepted (asks_in b)
     waits : AllByRecursion IsAccepted becomes.waits.items
     grants : AllByRecursion (GrantsBelow (openings t).setup.config.clients) becomes.waits.items
@@ -121,11 +162,6 @@ module _ {V C D O R T : Type 0} (kind : Kind V O R T) (view : D → ClientView V
             out ∙ ap (λ l. l ++ becomes.waits.items) (no_bye_asks b no_bye) ∙ sym parts;
         said = said ∙ was.said ∙ sym (ap has_bye publishes.sent ∙ still_none (view lane.side).sent b no_bye);
         last = λ s. rw (h.closing, h.counting) (was.last (sym said ∙ s));
-        launches =
-            let all = ap launches_in publishes.sent ∙ launches_in-append (view lane.side).sent b in
-            let none = accepted_launches b own in
-            let before = was.launches in
-            omega (arith, all, none, before);
         out_accepted = subst (AllByRecursion IsAccepted) (sym (no_bye_asks b no_bye)) own;
         waits = all_behind IsAccepted b becomes.waits.items accepted;
         grants =
@@ -147,10 +183,6 @@ module _ {V C D O R T : Type 0} (kind : Kind V O R T) (view : D → ClientView V
             out ∙ ap (λ l. asks_in l ++ becomes.waits.items) alone ∙ rest ∙ sym none;
         said = said ∙ sym (ap has_bye sent ∙ bye_at (view lane.side).sent []);
         last = λ s. (h.closing ∙ closing, h.counting ∙ nothing);
-        launches =
-            let all = ap launches_in sent ∙ launches_in-append (view lane.side).sent (Bye ∷ []) in
-            let before = was.launches in
-            omega (arith, all, before);
         out_accepted = rw alone tt;
         waits = rw rest tt;
         grants = rw rest tt;
@@ -175,19 +207,21 @@ module _ {V C D O R T : Type 0} (kind : Kind V O R T) (view : D → ClientView V
     client = was.client;
     waits_room = h.waits_room ∙ was.waits_room;
     afters_room = rw h.afters was.afters_room;
+    launched_room = rw h.launched was.launched_room;
     names = ap (λ l. names_of l.items) h.afters ∙ was.names ∙ ap (map name_of) before ∙ sym (ap (map name_of) went.unanswered_is);
+    launched = rw (h.launched, publishes.got) was.launched;
     counting =
         let counts = h.counting in
         let all = was.counting in
         let now = ap length went.unanswered_is in
         let earlier = ap length before in
-        omega (arith, counts, all, now, earlier);
+        let still = ap (λ l. length l.items) h.launched in
+        omega (arith, counts, all, now, earlier, still);
     window = rw h.counting was.window;
     out = rw publishes.out h.out;
     room = rw publishes.out h.room_of;
     said = went.said;
     last = went.last;
-    launches = went.launches;
     out_accepted = rw publishes.out went.out_accepted;
     waits = went.waits;
     grants = went.grants;
@@ -239,16 +273,18 @@ module _ {V C D O R T : Type 0} (kind : Kind V O R T) (view : D → ClientView V
       omega (arith, set, all, now, bring, brought, none, some)
       )
 
-  counting_is : length new.arrived.items + lanes_unanswered view new.lanes.items ≡ lanes_counting view new.lanes.items
+  counting_is : length new.arrived.items + (lanes_unanswered view new.lanes.items + lanes_launched view new.lanes.items) ≡ lanes_counting view new.lanes.items
   counting_is =
       rw (h.arrived, h.lanes) (
       let set = total_set (λ lane. length (unanswered view lane)) old.lanes.items t lane becomes h.of_lane in
+      let waits = total_set (λ lane. length lane.launched.items) old.lanes.items t lane becomes h.of_lane in
       let counts = total_set (λ lane. lane.counting) old.lanes.items t lane becomes h.of_lane in
       let now = ap length went.unanswered_is in
       let earlier = ap length before in
+      let still = ap (λ l. length l.items) h.launched in
       let one = h.counting in
       let all = is.counting in
-      omega (arith, set, counts, now, earlier, one, all)
+      omega (arith, set, waits, counts, now, earlier, still, one, all)
       )
 
   pub sending_keeps : IsClient view openings new

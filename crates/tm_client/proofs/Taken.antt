@@ -15,12 +15,14 @@ use Rattle.tm_client.specs.declared.holds.Hold.{Hold}
 use Rattle.tm_client.specs.declared.holds.Holds.{Holds}
 use Rattle.tm_client.specs.declared.trust.Trust.{Trust}
 use Rattle.tm_client.specs.declared.answers.Arrival.{Arrival}
+use Rattle.tm_client.specs.declared.answers.Came.{Came}
+use Rattle.tm_client.specs.declared.answers.Came.TheVariants.{Answered, Finished}
 use Rattle.tm_client.specs.declared.answers.Got.{Got}
 use Rattle.tm_client.specs.declared.books.Books.{Books}
 use Rattle.tm_client.specs.Listing.{hold_of, is_at, listed, held_count, room_for, held_at}
 use Rattle.tm_client.specs.Lanes.{unanswered, IsLane}
-use Rattle.tm_client.specs.Clients.{brings, entrusted, come_of, entrusted_in, given, brought_in, IsTakeable, lane_coming, lanes_coming, lanes_unanswered, lanes_counting, IsClient}
-use Rattle.tm_client.specs.Taking.{IsListed, IsGot, CountsLess, HasTaken}
+use Rattle.tm_client.specs.Clients.{brings_by, entrusted_by, come_of, entrusted_in, given, brought_in, MayHand, lane_coming, lanes_coming, lanes_unanswered, lanes_launched, lanes_counting, IsClient}
+use Rattle.tm_client.specs.Taking.{IsListed, IsGot, IsHanded, CountsLess, HasTaken}
 use Rattle.tm_client.proofs.Elements.{set_cases, total_set}
 use Rattle.tm_client.proofs.Listed.{gains_listed, gains_all}
 
@@ -44,16 +46,16 @@ one_at t = ap counted (eq-eqb t t refl)
 none_at : (t u : ℕ) → t ≢ u → counted (t == u) ≡ 0
 none_at t u other = ap counted (ne_eqb t u other)
 
--- what comes with the answer of trustee t to a request of this name, once it is taken
-pub record Comes {V O R T : Type 0} (t : ℕ) (name : Name) (a : Answer V O R T) (old new : Holds) : Type 0 where
-  pub listed_is : (u id : ℕ) → listed u id new ≡ listed u id old + entrusted u id t name a
-  pub count : held_count new ≤ held_count old + brings a
+-- what comes with what came of trustee t for a request of this name, once it is taken
+pub record Comes {V O R T : Type 0} (t : ℕ) (name : Name) (a : Came V O R T) (old new : Holds) : Type 0 where
+  pub listed_is : (u id : ℕ) → listed u id new ≡ listed u id old + entrusted_by u id t name a
+  pub count : held_count new ≤ held_count old + brings_by a
   pub standing : (n : ℕ) → t < n → ((at : ℕ) (h : Hold) → held_at old at ≡ Some h → h.trustee < n)
       → (at : ℕ) (h : Hold) → held_at new at ≡ Some h → h.trustee < n
   pub room : room_for new ≡ room_for old
 
 module _ {V O R T : Type 0} where
-  none_comes : (t : ℕ) (name : Name) (a : Answer V O R T) (old new : Holds) → ((u id : ℕ) → entrusted u id t name a ≡ 0) → new ≡ old → Comes t name a old new
+  none_comes : (t : ℕ) (name : Name) (a : Came V O R T) (old new : Holds) → ((u id : ℕ) → entrusted_by u id t name a ≡ 0) → new ≡ old → Comes t name a old new
   none_comes t name a old new none same = record {
     listed_is = λ u id. let all = ap (listed u id) same in let zero = none u id in omega (arith, all, zero);
     count = let all = ap held_count same in omega (arith, all);
@@ -61,8 +63,8 @@ module _ {V O R T : Type 0} where
     room = ap room_for same;
   }
 
-  one_comes : (t c : ℕ) (asked name : Name) (a : Answer V O R T) (trust : Trust) (old new : Holds)
-      → ((u id : ℕ) → entrusted u id t name a ≡ is_at u id t asked.id) → 1 ≤ brings a → IsListed t c asked trust old new → Comes t name a old new
+  one_comes : (t c : ℕ) (asked name : Name) (a : Came V O R T) (trust : Trust) (old new : Holds)
+      → ((u id : ℕ) → entrusted_by u id t name a ≡ is_at u id t asked.id) → 1 ≤ brings_by a → IsListed t c asked trust old new → Comes t name a old new
   one_comes t c asked name a trust old new one bring is = record {
     listed_is = λ u id.
         let gains = gains_listed u id (hold_of t asked) trust.at old new is.gains in
@@ -73,19 +75,23 @@ module _ {V O R T : Type 0} where
     room = is.gains.room;
   }
 
-  comes : (t c : ℕ) (name : Name) (a : Answer V O R T) (got : Got V O R T) (old new : Holds) → IsGot t c name a got old new → Comes t name a old new
-  comes t c name (Entrusted n) got old new (trust, is, listed) = one_comes t c n name (Entrusted n) trust old new (λ u id. refl) (omega arith) listed
-  comes t c name (NotEntrusted refusal v) got old new h = none_comes t name (NotEntrusted refusal v) old new (λ u id. refl) h.1
-  comes t c name (Replied r) got old new h = none_comes t name (Replied r) old new (λ u id. refl) h.1
+  comes : (t c : ℕ) (name : Name) (a : Answer V O R T) (got : Got V O R T) (old new : Holds) → IsGot t c name a got old new → Comes t name (Answered a) old new
+  comes t c name (Entrusted n) got old new (trust, is, listed) = one_comes t c n name (Answered (Entrusted n)) trust old new (λ u id. refl) (omega arith) listed
+  comes t c name (NotEntrusted refusal v) got old new h = none_comes t name (Answered (NotEntrusted refusal v)) old new (λ u id. refl) h.1
+  comes t c name (Replied r) got old new h = none_comes t name (Answered (Replied r)) old new (λ u id. refl) h.1
   comes t c name (Launched ticket) got old new h = absurd h
-  comes t c name (TicketsSpent task) got old new h = absurd h
-  comes t c name Granted got old new h = none_comes t name Granted old new (λ u id. refl) h.1
-  comes t c name Gone got old new h = none_comes t name Gone old new (λ u id. refl) h.1
-  comes t c name GiftsFull got old new h = none_comes t name GiftsFull old new (λ u id. refl) h.1
-  comes t c name Released got old new h = none_comes t name Released old new (λ u id. refl) h.1
-  comes t c name (Reclaimed v) got old new h = none_comes t name (Reclaimed v) old new (λ u id. refl) h.1
-  comes t c name Shared got old new (trust, is, listed) = one_comes t c name name Shared trust old new (λ u id. refl) (omega arith) listed
+  comes t c name (TicketsSpent task) got old new h = none_comes t name (Answered (TicketsSpent task)) old new (λ u id. refl) h.1
+  comes t c name Granted got old new h = none_comes t name (Answered Granted) old new (λ u id. refl) h.1
+  comes t c name Gone got old new h = none_comes t name (Answered Gone) old new (λ u id. refl) h.1
+  comes t c name GiftsFull got old new h = none_comes t name (Answered GiftsFull) old new (λ u id. refl) h.1
+  comes t c name Released got old new h = none_comes t name (Answered Released) old new (λ u id. refl) h.1
+  comes t c name (Reclaimed v) got old new h = none_comes t name (Answered (Reclaimed v)) old new (λ u id. refl) h.1
+  comes t c name Shared got old new (trust, is, listed) = one_comes t c name name (Answered Shared) trust old new (λ u id. refl) (omega arith) listed
   comes t c name ByeDone got old new h = absurd h
+
+  comes_by : (t c : ℕ) (name : Name) (a : Came V O R T) (got : Got V O R T) (old new : Holds) → IsHanded t c name a got old new → Comes t name a old new
+  comes_by t c name (Answered a) got old new h = comes t c name a got old new h
+  comes_by t c name (Finished r) got old new h = none_comes t name (Finished r) old new (λ u id. refl) h.1
 
 module _ {V C D O R T : Type 0} (view : D → ClientView V O R T) where
   -- a lane of which one answer was taken
@@ -97,14 +103,15 @@ module _ {V C D O R T : Type 0} (view : D → ClientView V O R T) where
     client = is.client;
     waits_room = rw h.waits is.waits_room;
     afters_room = rw h.afters is.afters_room;
+    launched_room = rw h.launched is.launched_room;
     names = rw (h.side, h.waits, h.afters) is.names;
-    counting = rw (h.side, h.waits) (let was = is.counting in let now = h.counting in omega arith);
+    launched = rw (h.side, h.launched) is.launched;
+    counting = rw (h.side, h.waits, h.launched) (let was = is.counting in let now = h.counting in omega arith);
     window = let was = is.window in let now = h.counting in omega arith;
     out = h.out ∙ rw h.side is.out;
     room = h.room ∙ rw h.side is.room;
     said = h.said ∙ rw h.side is.said;
     last = λ s. let was = is.last (sym h.said ∙ s) in (h.closing ∙ was.0, let none = was.1 in let now = h.counting in omega arith);
-    launches = rw h.side is.launches;
     out_accepted = rw h.side is.out_accepted;
     waits = rw h.waits is.waits;
     grants = rw h.waits is.grants;
@@ -147,8 +154,8 @@ module _ {V C D O R T : Type 0} (view : D → ClientView V O R T) where
         ]
         )
 
-    by_answer : Comes a.t a.name a.answer old.held new.held
-    by_answer = comes a.t old.number a.name a.answer got old.held new.held a.is_got
+    by_answer : Comes a.t a.name a.came old.held new.held
+    by_answer = comes_by a.t old.number a.name a.came got old.held new.held a.is_got
 
     moved : (u id : ℕ)
         → listed u id new.held + (entrusted_in u id new.arrived.items + given u id new.gifts.items)
@@ -195,10 +202,12 @@ module _ {V C D O R T : Type 0} (view : D → ClientView V O R T) where
         omega arith
         )
 
-    counting_is : length new.arrived.items + lanes_unanswered view new.lanes.items ≡ lanes_counting view new.lanes.items
+    counting_is : length new.arrived.items + (lanes_unanswered view new.lanes.items + lanes_launched view new.lanes.items) ≡ lanes_counting view new.lanes.items
     counting_is =
         rw a.lanes (
         let set = total_set (λ lane. length (unanswered view lane)) old.lanes.items a.t a.lane a.becomes a.of_lane in
+        let waits = total_set (λ lane. length lane.launched.items) old.lanes.items a.t a.lane a.becomes a.of_lane in
+        let still = ap (λ l. length l.items) a.counts.launched in
         let counts = total_set (λ lane. lane.counting) old.lanes.items a.t a.lane a.becomes a.of_lane in
         let same = same_length in
         let one = a.counts.counting in
@@ -214,8 +223,8 @@ module _ {V C D O R T : Type 0} (view : D → ClientView V O R T) where
         let little = by_answer.count in
         omega (arith, most, now, little)
 
-    rest_arrived : AllByRecursion (λ x. (x.trustee < length old.lanes.items) × IsTakeable x.answer) new.arrived.items
-    rest_arrived = (subst (λ xs. AllByRecursion (λ x. (x.trustee < length old.lanes.items) × IsTakeable x.answer) xs) a.first is.arrived).1
+    rest_arrived : AllByRecursion (λ x. (x.trustee < length old.lanes.items) × MayHand x.came) new.arrived.items
+    rest_arrived = (subst (λ xs. AllByRecursion (λ x. (x.trustee < length old.lanes.items) × MayHand x.came) xs) a.first is.arrived).1
 
     pub taking_keeps : IsClient view openings new
     taking_keeps = record {
@@ -237,9 +246,9 @@ module _ {V C D O R T : Type 0} (view : D → ClientView V O R T) where
   -- what a client that has an answer to hand out knows of it
   pub record IsFirst (books : Books V C D O R T) (x : Arrival V C O R T) : Type 0 where
     pub within : x.trustee < length books.lanes.items
-    pub takeable : IsTakeable x.answer
-    pub coming : brings x.answer ≤ books.coming
-    pub room : held_count books.held + brings x.answer ≤ room_for books.held
+    pub takeable : MayHand x.came
+    pub coming : brings_by x.came ≤ books.coming
+    pub room : held_count books.held + brings_by x.came ≤ room_for books.held
     pub counts : (lane : Lane V C D O R T) → slice_get books.lanes.items x.trustee ≡ Some lane → 1 ≤ lane.counting
 
   pub is_first :
@@ -247,9 +256,9 @@ module _ {V C D O R T : Type 0} (view : D → ClientView V O R T) where
       → slice_get books.arrived.items 0 ≡ Some x → IsFirst books x
   is_first openings books x is e =
       let (rest, all) = first_rest books.arrived.items x e in
-      let first = (subst (λ xs. AllByRecursion (λ y. (y.trustee < length books.lanes.items) × IsTakeable y.answer) xs) all is.arrived).0 in
-      let brought : brought_in books.arrived.items ≡ brings x.answer + brought_in rest = ap (λ xs. brought_in xs) all in
-      let coming : brings x.answer ≤ books.coming = let sum = is.coming in omega arith in
+      let first = (subst (λ xs. AllByRecursion (λ y. (y.trustee < length books.lanes.items) × MayHand y.came) xs) all is.arrived).0 in
+      let brought : brought_in books.arrived.items ≡ brings_by x.came + brought_in rest = ap (λ xs. brought_in xs) all in
+      let coming : brings_by x.came ≤ books.coming = let sum = is.coming in omega arith in
       record {
         within = first.0;
         takeable = first.1;

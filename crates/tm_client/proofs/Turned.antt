@@ -1,13 +1,13 @@
 -- What a look of a client at a trustee did.
-use Rattle.std.proofs.Common.{◌≡◌, ℕ, ◌+◌, length, refl, sym, ◌∙◌, ap, subst}
-use Rattle.std.specs.Prelude.{slice_get, slice_set}
+use Rattle.std.proofs.Common.{◌≡◌, ℕ, ◌+◌, ◌++◌, length, refl, sym, ◌∙◌, ap, subst}
+use Rattle.std.specs.Prelude.{nat_eq, slice_get, slice_set}
+use Rattle.std.specs.List.{AllByRecursion, IsDistinct, Contains}
 use Rattle.std.specs.declared.option.Option.TheVariants.{None, Some}
 use Rattle.std.proofs.lemmas.Option.{slice_get_within}
 use Rattle.tm_seq.specs.Kind.{Kind}
 use Rattle.tm_batch.specs.declared.message.AnswerBatch.{AnswerBatch}
 use Rattle.tm_model.specs.State.{State}
 use Rattle.tm_model.specs.Ran.{ran}
-use Rattle.tm_model.specs.Holds.{launches_in}
 use Rattle.tm_pair.specs.Calls.{IsPending, Gets}
 use Rattle.tm_pair.specs.Sides.{IsGoodClient}
 use Rattle.tm_pair.specs.Theory.{Theory, TheoryLaws, KeepsSides}
@@ -17,15 +17,19 @@ use Rattle.tm_client.specs.declared.answers.Turn.TheVariants.{Pending, Got}
 use Rattle.tm_client.specs.declared.books.Books.{Books}
 use Rattle.tm_client.specs.Lanes.{out_requests}
 use Rattle.tm_client.specs.Clients.{IsClient}
-use Rattle.tm_client.specs.Receiving.{HasReceived, HasTakenIn}
+use Rattle.tm_client.specs.Launches.{ended_tickets, tickets_of, told_tickets, waiting_tickets, with_told}
+use Rattle.tm_client.specs.Receiving.{MayReceive, HasReceived, HasTakenIn}
+use Rattle.tm_client.specs.Tickets.{EndsTickets}
 use Rattle.tm_client.specs.SideLaws.{Brings}
 use Rattle.tm_client.specs.Turns.{HasTurned}
 use Rattle.tm_client.proofs.Bringing.{collects_bring}
 use Rattle.tm_client.proofs.Fronts.{set_there}
 use Rattle.tm_client.proofs.Living.{sent_is}
-use Rattle.tm_client.proofs.Looking.{as_many, gifts_fit, got_extends, same_extends, side_is, becomes_there, received, looking_keeps}
+use Rattle.tm_client.proofs.Looking.{may_receive, as_many, gifts_fit, got_extends, same_extends, side_is, becomes_there, received, looking_keeps}
 use Rattle.tm_client.proofs.Receiving.{receiving_keeps}
 use Rattle.tm_client.proofs.Seeing.{sees_at}
+use Rattle.tm_client.proofs.Tickets.{collects_end}
+use Rattle.tm_client.proofs.Told as told
 
 module _ {V C D O R T Table Owner : Type 0} (theory : Theory V O R T Table D Owner) (kind : Kind V O R T) (laws : TheoryLaws theory kind)
     (openings : ℕ → State V O R T) (t : ℕ) (was now : Table) (lane : Lane V C D O R T) (side : D) (old : Books V C D O R T)
@@ -36,6 +40,14 @@ module _ {V C D O R T Table Owner : Type 0} (theory : Theory V O R T Table D Own
 
   good_now : IsGoodClient kind (openings t) (theory.client_view side)
   good_now = subst (λ s. IsGoodClient kind s (theory.client_view side)) (keeps.opening ∙ sym same) (laws.client_is_good now side keeps.mine)
+
+  -- it found the answers a, and has room for them
+  pub may_take : (a : AnswerBatch V O R T) → Gets a (theory.client_view lane.side) (theory.client_view side) → MayReceive a lane old
+  may_take a gets =
+      may_receive theory.client_view openings t a lane old (theory.client_view side) is there
+      (ran (theory.client_view lane.side).place (theory.client_view lane.side).seen) (sent_is kind (openings t) (theory.client_view lane.side) good_was) gets
+      (collects_bring kind (openings t) (theory.client_view lane.side) (theory.client_view side) a good_was good_now gets)
+      (collects_end kind (openings t) (theory.client_view lane.side) (theory.client_view side) a good_was good_now gets)
 
   -- it found the answers a, and took them in
   module _ (a : AnswerBatch V O R T) (mid new : Books V C D O R T)
@@ -56,11 +68,25 @@ module _ {V C D O R T Table Owner : Type 0} (theory : Theory V O R T Table D Own
     brings : Brings (openings t) (out_requests (theory.client_view lane.side).out) a (theory.client_view lane.side) (theory.client_view taken.becomes.side)
     brings = collects_bring kind (openings t) (theory.client_view lane.side) (theory.client_view taken.becomes.side) a good_was becomes_good becomes_gets
 
+    ends : EndsTickets a (theory.client_view lane.side) (theory.client_view taken.becomes.side)
+    ends = collects_end kind (openings t) (theory.client_view lane.side) (theory.client_view taken.becomes.side) a good_was becomes_good becomes_gets
+
+    run_is : (theory.client_view lane.side).sent
+        ≡ ran (theory.client_view lane.side).place (theory.client_view lane.side).seen ++ out_requests (theory.client_view lane.side).out
+    run_is = sent_is kind (openings t) (theory.client_view lane.side) good_was
+
+    -- the tickets of the launches that lack their completion, and of those that begin
+    tickets_are : tickets_of (with_told lane a) ≡ waiting_tickets (theory.client_view lane.side).got ++ told_tickets a.answers.items
+    tickets_are =
+        told.tickets_are theory.client_view openings t a lane old is there (theory.client_view taken.becomes.side)
+        (ran (theory.client_view lane.side).place (theory.client_view lane.side).seen) run_is
+        (as_many a (theory.client_view lane.side) (theory.client_view side) gets) brings ends
+
     pub got_keeps : IsClient theory.client_view openings new
     got_keeps =
         receiving_keeps theory.client_view openings t a lane taken.becomes old new is becomes_received
         (ran (theory.client_view lane.side).place (theory.client_view lane.side).seen) (sent_is kind (openings t) (theory.client_view lane.side) good_was)
-        (as_many a (theory.client_view lane.side) (theory.client_view side) gets) becomes_gets brings
+        (as_many a (theory.client_view lane.side) (theory.client_view side) gets) becomes_gets brings ends
         (gifts_fit a (theory.client_view lane.side) (theory.client_view side) gets)
 
     pub got_turned : (n : ℕ) → n ≡ length a.answers.items + length a.gifts.items + length a.completions.items
@@ -76,6 +102,7 @@ module _ {V C D O R T Table Owner : Type 0} (theory : Theory V O R T Table D Own
             did = did;
             count = count;
             arrived = h.arrived;
+            launched = h.launched;
             gifts = h.gifts;
             waits = h.waits;
             afters = h.afters;
@@ -83,7 +110,9 @@ module _ {V C D O R T Table Owner : Type 0} (theory : Theory V O R T Table D Own
             fetching = h.fetching;
             said = h.said;
             fits = brings.fits;
-            ends = brings.ends (ap launches_in becomes_gets.sent ∙ (is.lanes t lane there).launches);
+            once = subst (IsDistinct nat_eq) (sym tickets_are) ends.told;
+            ended = ends.ended;
+            ends = subst (λ tickets. AllByRecursion (Contains tickets) (ended_tickets a.completions.items)) (sym tickets_are) ends.among;
           };
           keeps = subst (λ s. KeepsSides theory was now lane.side s) (sym becomes_side) keeps;
           extends = got_extends a (theory.client_view lane.side) (theory.client_view taken.becomes.side) becomes_gets;

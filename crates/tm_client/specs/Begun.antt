@@ -61,6 +61,7 @@ module _ {V C D O R T : Type 0} where
     side = side;
     waits = buffer [] WINDOW;
     afters = buffer [] WINDOW;
+    launched = buffer [] WINDOW;
     out = false;
     room = 0;
     counting = 0;

@@ -14,7 +14,7 @@ module _ {V O R T C D : Type 0} where
   ByeDue lane = (lane.waits.items ≡ []) × (lane.closing ≡ true) × (lane.said ≡ false) × (lane.counting ≡ 0)
 
   abbrev pub FetchDue : Lane V C D O R T → Type 0
-  FetchDue lane = (lane.waits.items ≡ []) × (¬ (ByeDue lane)) × (lane.said ≡ false) × (lane.fetching ≡ true)
+  FetchDue lane = (lane.waits.items ≡ []) × (¬ (ByeDue lane)) × (lane.said ≡ false) × ((lane.fetching ≡ true) ⊎ (lane.launched.items ≢ []))
 
   -- nothing is due
   abbrev pub NothingDue : Lane V C D O R T → Type 0
@@ -33,6 +33,7 @@ module _ {V O R T C D : Type 0} where
     pub side : becomes.side ≡ lane.side
     pub waits_room : becomes.waits.capacity ≡ lane.waits.capacity
     pub afters : becomes.afters ≡ lane.afters
+    pub launched : becomes.launched ≡ lane.launched
     pub counting : becomes.counting ≡ lane.counting
     pub fetching : becomes.fetching ≡ lane.fetching
     pub closing : becomes.closing ≡ lane.closing

@@ -8,11 +8,12 @@ use Rattle.tm_batch.specs.declared.message.Name.{Name}
 use Rattle.tm_batch.specs.declared.message.Request.{Request}
 use Rattle.tm_batch.specs.declared.message.Request.TheVariants.{Entrust, Apply, Launch, Grant, Release, Reclaim, Bye}
 use Rattle.tm_model.specs.State.{State}
-use Rattle.tm_model.specs.Holds.{Names, has_bye, launches_in, gave, came}
+use Rattle.tm_model.specs.Holds.{Names, has_bye, gave, came}
 use Rattle.tm_model.specs.Orderly.{GrantsBelow}
 use Rattle.tm_pair.specs.Views.{BatchView, ClientView}
 use Rattle.tm_client.specs.declared.lane.Lane.{Lane}
 use Rattle.tm_client.specs.declared.lane.Waiting.{Waiting}
+use Rattle.tm_client.specs.Launches.{tickets_of, waiting_tickets}
 
 module _ {V O R T : Type 0} where
   -- requests without the Byes, which no caller made
@@ -52,9 +53,8 @@ module _ {V O R T : Type 0} where
   bringing (Reclaim n ∷ qs) = 1 + bringing qs
   bringing (_ ∷ qs) = bringing qs
 
-  -- a request that a call of a client accepts today: a launch waits for tickets, and a Bye is the client's own
+  -- a request that a call of a client accepts: a Bye is the client's own
   abbrev pub IsAccepted : Request V O R T → Type 0
-  IsAccepted (Launch n task) = ⊥
   IsAccepted Bye = ⊥
   IsAccepted _ = Unit {0}
 
@@ -76,6 +76,7 @@ module _ {V O R T C D : Type 0} where
     pub waits_room : new.waits.capacity ≡ old.waits.capacity
     pub afters : new.afters.items ≡ old.afters.items ++ (record { after = after; name = name_of q }) ∷ []
     pub afters_room : new.afters.capacity ≡ old.afters.capacity
+    pub launched : new.launched ≡ old.launched
     pub counting : new.counting ≡ old.counting + 1
     pub out : new.out ≡ old.out
     pub room : new.room ≡ old.room
@@ -92,23 +93,25 @@ module _ {V O R T C D : Type 0} (view : D → ClientView V O R T) where
   abbrev pub accepted : Lane V C D O R T → List (Request V O R T)
   accepted lane = asks_in (view lane.side).sent ++ lane.waits.items
 
-  -- the lane of client c at a trustee that opened in this state, of which so many answers came and were not taken
+  -- the lane of client c at a trustee that opened in this state, of which so much came and was not taken: answers and completions
   pub record IsLane (opening : State V O R T) (c came_here : ℕ) (lane : Lane V C D O R T) : Type 0 where
     pub place : (view lane.side).place ≡ c
     pub client : c < opening.setup.config.clients
     pub waits_room : lane.waits.capacity ≡ WINDOW
     pub afters_room : lane.afters.capacity ≡ WINDOW
+    pub launched_room : lane.launched.capacity ≡ WINDOW
     -- there is a continuation for each request whose answer did not come, with the name of that request
     pub names : names_of lane.afters.items ≡ map name_of (unanswered lane)
-    -- a request counts until its answer is taken
-    pub counting : lane.counting ≡ length (unanswered lane) + came_here
+    -- the launches that lack their completion are those whose tickets came and whose completions did not
+    pub launched : tickets_of lane.launched.items ≡ waiting_tickets (view lane.side).got
+    -- a request counts until its answer is taken, and a launch until its completion is, or its refusal
+    pub counting : lane.counting ≡ length (unanswered lane) + length lane.launched.items + came_here
     pub window : lane.counting ≤ WINDOW
     pub out : lane.out ≡ is_out (view lane.side).out
     pub room : lane.room ≡ out_room (view lane.side).out
     pub said : lane.said ≡ has_bye (view lane.side).sent
     -- a Bye is sent only after `close`, when nothing counts
     pub last : lane.said ≡ true → (lane.closing ≡ true) × (lane.counting ≡ 0)
-    pub launches : launches_in (view lane.side).sent ≡ 0
     pub out_accepted : AllByRecursion IsAccepted (asks_in (out_requests (view lane.side).out))
     pub waits : AllByRecursion IsAccepted lane.waits.items
     pub grants : AllByRecursion (GrantsBelow opening.setup.config.clients) lane.waits.items

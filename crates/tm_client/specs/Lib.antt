@@ -3,6 +3,7 @@ pub mod Begun
 pub mod Clients
 pub mod Due
 pub mod Lanes
+pub mod Launches
 pub mod Listing
 pub mod Marking
 pub mod Posting
@@ -10,4 +11,5 @@ pub mod Receiving
 pub mod Sending
 pub mod SideLaws
 pub mod Taking
+pub mod Tickets
 pub mod Turns

@@ -12,6 +12,7 @@ module _ {V C D O R T : Type 0} where
     side = lane.side;
     waits = lane.waits;
     afters = lane.afters;
+    launched = lane.launched;
     out = lane.out;
     room = lane.room;
     counting = lane.counting;

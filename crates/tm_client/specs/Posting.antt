@@ -12,6 +12,7 @@ module _ {V O R T C D : Type 0} where
   pub record HasPosted (room : ℕ) (lane becomes : Lane V C D O R T) : Type 0 where
     pub waits : becomes.waits ≡ lane.waits
     pub afters : becomes.afters ≡ lane.afters
+    pub launched : becomes.launched ≡ lane.launched
     pub counting : becomes.counting ≡ lane.counting
     pub fetching : becomes.fetching ≡ false
     pub closing : becomes.closing ≡ lane.closing
@@ -31,6 +32,7 @@ module _ {V O R T C D Table Owner : Type 0} (theory : Theory V O R T Table D Own
     pub keeps : KeepsSides theory was now lane.side becomes.side
     pub waits_room : becomes.waits.capacity ≡ lane.waits.capacity
     pub afters : becomes.afters ≡ lane.afters
+    pub launched : becomes.launched ≡ lane.launched
     pub counting : becomes.counting ≡ lane.counting
     pub fetching : becomes.fetching ≡ false
     pub closing : becomes.closing ≡ lane.closing

@@ -21,6 +21,7 @@ module _ {V O R T C D : Type 0} where
     pub goes : Goes b lane becomes
     pub waits_room : becomes.waits.capacity ≡ lane.waits.capacity
     pub afters : becomes.afters ≡ lane.afters
+    pub launched : becomes.launched ≡ lane.launched
     pub counting : becomes.counting ≡ lane.counting
     pub fetching : becomes.fetching ≡ false
     pub closing : becomes.closing ≡ lane.closing

@@ -1,7 +1,8 @@
 -- What a client's side tells of what it sent, got and saw: the statements, each proved as the contract of a function that cites it.
-use Rattle.std.specs.Prelude.{◌≡◌, ◌≢◌, ℕ, ◌+◌, ◌<◌, true, false, List, [], ◌∷◌, ◌++◌}
+use Rattle.std.specs.Prelude.{◌≡◌, ◌≢◌, ℕ, ◌+◌, ◌<◌, ◌≤◌, true, false, List, [], ◌∷◌, ◌++◌}
 use Rattle.std.specs.List.{AllByRecursion, AllZip}
 use Rattle.tm_seq.specs.Kind.{Kind}
+use Rattle.tm_batch.specs.declared.limits.TheConstants.{WINDOW}
 use Rattle.tm_batch.specs.declared.message.Request.{Request}
 use Rattle.tm_batch.specs.declared.message.Request.TheVariants.{Bye}
 use Rattle.tm_batch.specs.declared.message.Answer.{Answer}
@@ -9,7 +10,7 @@ use Rattle.tm_batch.specs.declared.message.AnswerBatch.{AnswerBatch}
 use Rattle.tm_model.specs.State.{State, IsHeld}
 use Rattle.tm_model.specs.Serve.{state_after}
 use Rattle.tm_model.specs.Ran.{ran, answered}
-use Rattle.tm_model.specs.Holds.{has_bye, launches_in, gave, brought_by, gifts_of, answers_in, came}
+use Rattle.tm_model.specs.Holds.{has_bye, launches_in, gave, brought_by, gifts_of, answers_in, ended_in, came}
 use Rattle.tm_model.specs.Orderly.{GrantsBelow, IsOrderly}
 use Rattle.tm_model.specs.Fits.{Fits}
 use Rattle.tm_pair.specs.Views.{ClientView}
@@ -39,11 +40,11 @@ module _ {V O R T : Type 0} where
         ≡ came opening old.place old.sent old.got id + (brought_by id b a.answers.items + gifts_of id a.gifts.items)
 
   module _ (kind : Kind V O R T) where
-    -- what waits may go, its first first
+    -- what waits may go, its first first, where no more launches lack their completion then than the window
     abbrev pub WaitsMayGo : Type 0
     WaitsMayGo =
         (opening : State V O R T) (view : ClientView V O R T) (b rest : List (Request V O R T)) → IsGoodClient kind opening view
-        → view.place < opening.setup.config.clients → launches_in view.sent ≡ 0 → (has_bye view.sent ≡ true → b ++ rest ≡ [])
+        → view.place < opening.setup.config.clients → launches_in (view.sent ++ b) ≤ WINDOW + ended_in view.got → (has_bye view.sent ≡ true → b ++ rest ≡ [])
         → AllByRecursion IsAccepted (b ++ rest) → AllByRecursion (GrantsBelow opening.setup.config.clients) (b ++ rest)
         → AreHeld opening view (b ++ rest)
         → IsOrderly opening view.place view.sent view.got b
@@ -55,11 +56,11 @@ module _ {V O R T : Type 0} where
         → Publishes b room old new → AreHeld opening old (b ++ rest)
         → AreHeld opening new rest × ((id : ℕ) → came opening new.place new.sent new.got id ≡ came opening old.place old.sent old.got id)
 
-    -- a Bye alone may go where none was sent
+    -- a Bye alone may go where none was sent and no launch lacks its completion
     abbrev pub ByesMayGo : Type 0
     ByesMayGo =
         (opening : State V O R T) (view : ClientView V O R T) → IsGoodClient kind opening view
-        → view.place < opening.setup.config.clients → launches_in view.sent ≡ 0 → has_bye view.sent ≡ false
+        → view.place < opening.setup.config.clients → launches_in view.sent ≡ ended_in view.got → has_bye view.sent ≡ false
         → IsOrderly opening view.place view.sent view.got (Bye ∷ [])
 
     -- what a collect brought

@@ -3,15 +3,17 @@ use Rattle.std.specs.Prelude.{◌≡◌, ℕ, ◌+◌, ◌∷◌, slice_get, sli
 use Rattle.std.specs.declared.option.Option.TheVariants.{Some}
 use Rattle.tm_batch.specs.declared.message.Name.{Name}
 use Rattle.tm_batch.specs.declared.message.Answer.{Answer}
-use Rattle.tm_batch.specs.declared.message.Answer.TheVariants.{Entrusted, NotEntrusted, Replied, Granted, Gone, GiftsFull, Released, Reclaimed, Shared}
+use Rattle.tm_batch.specs.declared.message.Answer.TheVariants.{Entrusted, NotEntrusted, Replied, TicketsSpent, Granted, Gone, GiftsFull, Released, Reclaimed, Shared}
 use Rattle.tm_client.specs.declared.lane.Lane.{Lane}
 use Rattle.tm_client.specs.declared.holds.Holds.{Holds}
 use Rattle.tm_client.specs.declared.trust.Trust.{Trust}
+use Rattle.tm_client.specs.declared.answers.Came.{Came}
+use Rattle.tm_client.specs.declared.answers.Came.TheVariants.{Answered, Finished}
 use Rattle.tm_client.specs.declared.answers.Got.{Got}
-use Rattle.tm_client.specs.declared.answers.Got.TheVariants.{Entrusted as TrustOf, NotEntrusted as Back, Replied as ReplyOf, Granted as IsGranted, Gone as IsGone, GiftsFull as AreFull, Released as IsReleased, Reclaimed as ValueOf, Shared as StillOf}
+use Rattle.tm_client.specs.declared.answers.Got.TheVariants.{Entrusted as TrustOf, NotEntrusted as Back, Replied as ReplyOf, Finished as EndOf, TicketsSpent as TaskOf, Granted as IsGranted, Gone as IsGone, GiftsFull as AreFull, Released as IsReleased, Reclaimed as ValueOf, Shared as StillOf}
 use Rattle.tm_client.specs.declared.books.Books.{Books}
 use Rattle.tm_client.specs.Listing.{hold_of, Gains}
-use Rattle.tm_client.specs.Clients.{brings}
+use Rattle.tm_client.specs.Clients.{brings_by}
 
 -- a trust of this name of trustee t stands in the list of client c at the place that it tells, and did not before
 pub record IsListed (t c : ℕ) (asked : Name) (trust : Trust) (old new : Holds) : Type 0 where
@@ -27,6 +29,7 @@ module _ {V O R T : Type 0} where
   IsGot t c asked (Entrusted n) got old new = (trust : Trust) × (got ≡ TrustOf trust) × IsListed t c n trust old new
   IsGot t c asked (NotEntrusted refusal v) got old new = (got ≡ Back refusal v) × (new ≡ old)
   IsGot t c asked (Replied r) got old new = (got ≡ ReplyOf r) × (new ≡ old)
+  IsGot t c asked (TicketsSpent task) got old new = (got ≡ TaskOf task) × (new ≡ old)
   IsGot t c asked Granted got old new = (got ≡ IsGranted) × (new ≡ old)
   IsGot t c asked Gone got old new = (got ≡ IsGone) × (new ≡ old)
   IsGot t c asked GiftsFull got old new = (got ≡ AreFull) × (new ≡ old)
@@ -35,12 +38,18 @@ module _ {V O R T : Type 0} where
   IsGot t c asked Shared got old new = (trust : Trust) × (got ≡ StillOf trust) × IsListed t c asked trust old new
   IsGot t c asked _ got old new = ⊥
 
+  -- so for what came: for a completion its reply is handed out
+  abbrev pub IsHanded : ℕ → ℕ → Name → Came V O R T → Got V O R T → Holds → Holds → Type 0
+  IsHanded t c asked (Answered a) got old new = IsGot t c asked a got old new
+  IsHanded t c asked (Finished reply) got old new = (got ≡ EndOf reply) × (new ≡ old)
+
 module _ {V O R T C D : Type 0} where
   -- a lane has one request less that counts
   pub record CountsLess (old new : Lane V C D O R T) : Type 0 where
     pub side : new.side ≡ old.side
     pub waits : new.waits ≡ old.waits
     pub afters : new.afters ≡ old.afters
+    pub launched : new.launched ≡ old.launched
     pub counting : old.counting ≡ new.counting + 1
     pub out : new.out ≡ old.out
     pub room : new.room ≡ old.room
@@ -48,17 +57,17 @@ module _ {V O R T C D : Type 0} where
     pub closing : new.closing ≡ old.closing
     pub said : new.said ≡ old.said
 
-  -- the first of what arrived was taken and handed out, its continuation with what its answer gives
+  -- the first of what arrived was taken and handed out, its continuation with what its answer or its completion gives. It counts no more
   pub record HasTaken (after : C) (got : Got V O R T) (old new : Books V C D O R T) : Type 0 where
-    pub answer : Answer V O R T
+    pub came : Came V O R T
     pub t : ℕ
     pub name : Name
     pub lane : Lane V C D O R T
     pub becomes : Lane V C D O R T
-    pub first : old.arrived.items ≡ (record { trustee = t; name = name; after = after; answer = answer }) ∷ new.arrived.items
+    pub first : old.arrived.items ≡ (record { trustee = t; name = name; after = after; came = came }) ∷ new.arrived.items
     pub capacity : new.arrived.capacity ≡ old.arrived.capacity
-    pub is_got : IsGot t old.number name answer got old.held new.held
-    pub coming : old.coming ≡ new.coming + brings answer
+    pub is_got : IsHanded t old.number name came got old.held new.held
+    pub coming : old.coming ≡ new.coming + brings_by came
     pub of_lane : slice_get old.lanes.items t ≡ Some lane
     pub counts : CountsLess lane becomes
     pub lanes : new.lanes.items ≡ slice_set old.lanes.items t becomes

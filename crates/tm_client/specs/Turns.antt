@@ -1,6 +1,6 @@
 -- What a turn of a client does.
-use Rattle.std.specs.Prelude.{◌≡◌, ◌≢◌, ℕ, ◌+◌, ◌-◌, ◌≤◌, ◌⊎◌, true, false, min, List, [], ◌∷◌, ◌++◌, length, map, take, drop, slice_get, slice_set}
-use Rattle.std.specs.List.{AllZip}
+use Rattle.std.specs.Prelude.{◌≡◌, ◌≢◌, ℕ, nat_eq, ◌+◌, ◌-◌, ◌≤◌, ◌⊎◌, true, false, min, List, [], ◌∷◌, ◌++◌, length, map, take, drop, slice_get, slice_set}
+use Rattle.std.specs.List.{AllByRecursion, AllZip, IsDistinct, Contains}
 use Rattle.std.specs.declared.option.Option.TheVariants.{None, Some}
 use Rattle.tm_seq.specs.Kind.{Kind}
 use Rattle.tm_batch.specs.declared.limits.TheConstants.{MOST_REQUESTS, MOST_ROOM}
@@ -8,7 +8,6 @@ use Rattle.tm_batch.specs.declared.batch.Batch.{Batch}
 use Rattle.tm_batch.specs.declared.message.Name.{Name}
 use Rattle.tm_batch.specs.declared.message.Request.{Request}
 use Rattle.tm_batch.specs.declared.message.Request.TheVariants.{Bye}
-use Rattle.tm_batch.specs.declared.message.Answer.{Answer}
 use Rattle.tm_batch.specs.declared.message.AnswerBatch.{AnswerBatch}
 use Rattle.tm_model.specs.State.{State, IsHeld}
 use Rattle.tm_model.specs.Serve.{state_after}
@@ -21,25 +20,17 @@ use Rattle.tm_pair.specs.Calls.{Publishes, IsPending, Gets}
 use Rattle.tm_pair.specs.Theory.{Theory, KeepsSides}
 use Rattle.tm_pair.specs.declared.moves.Move.TheVariants.{Publish, Collect}
 use Rattle.tm_client.specs.declared.lane.Lane.{Lane}
-use Rattle.tm_client.specs.declared.lane.Waiting.{Waiting}
 use Rattle.tm_client.specs.declared.trust.Trust.{Trust}
-use Rattle.tm_client.specs.declared.answers.Arrival.{Arrival}
 use Rattle.tm_client.specs.declared.answers.Turn.{Turn}
 use Rattle.tm_client.specs.declared.answers.Turn.TheVariants.{Sent, Pending, Got, Idle}
 use Rattle.tm_client.specs.declared.books.Books.{Books}
 use Rattle.tm_client.specs.Lanes.{out_requests}
+use Rattle.tm_client.specs.Launches.{ended_tickets, tickets_of, launches_left, arrivals_of, finished_of, with_told}
 use Rattle.tm_client.specs.Listing.{listed, held_count}
 
 -- the trusts that come as gifts of trustee t to client c
 abbrev pub gifts_from : ℕ → ℕ → List Name → List Trust
 gifts_from t c names = map (λ n. record { trustee = t; name = n; client = c; at = 0 }) names
-
-module _ {V O R T C : Type 0} where
-  -- each of some continuations, and the name of its request, with the answer of its position
-  abbrev pub arrivals_of : ℕ → List (Waiting C) → List (Answer V O R T) → List (Arrival V C O R T)
-  arrivals_of t [] answers = []
-  arrivals_of t (w ∷ waiting) [] = []
-  arrivals_of t (w ∷ waiting) (a ∷ answers) = record { trustee = t; name = w.name; after = w.after; answer = a } ∷ arrivals_of t waiting answers
 
 module _ {V O R T C D Table Owner : Type 0} (theory : Theory V O R T Table D Owner) where
   -- a turn at trustee t changed one lane, and of the rest what it says
@@ -52,22 +43,28 @@ module _ {V O R T C D Table Owner : Type 0} (theory : Theory V O R T Table D Own
     pub most : new.most ≡ old.most
     pub held : new.held ≡ old.held
 
-  -- it got answers: each continuation of what was out arrives with the answer to its own request
+  -- it got answers: each continuation of what was out arrives with the answer to its own request, or waits where that is the ticket of a
+  -- launch; then each that waits for a completion which came arrives with it
   pub record HasGot (kind : Kind V O R T) (t n : ℕ) (was now : Table) (lane becomes : Lane V C D O R T) (old new : Books V C D O R T) : Type 0 where
     pub answers : AnswerBatch V O R T
     pub gets : Gets answers (theory.client_view lane.side) (theory.client_view becomes.side)
     pub did : theory.Did (Collect (theory.client_view lane.side).place (Some answers)) was now
     pub count : n ≡ length answers.answers.items + length answers.gifts.items + length answers.completions.items
-    pub arrived : new.arrived.items ≡ old.arrived.items ++ arrivals_of t lane.afters.items answers.answers.items
+    pub arrived : new.arrived.items
+        ≡ old.arrived.items ++ (arrivals_of t lane.afters.items answers.answers.items ++ finished_of t (with_told lane answers) answers.completions.items)
+    pub launched : becomes.launched.items ≡ launches_left (ended_tickets answers.completions.items) (with_told lane answers)
     pub gifts : new.gifts.items ≡ old.gifts.items ++ gifts_from t old.number answers.gifts.items
     pub waits : becomes.waits ≡ lane.waits
     pub afters : becomes.afters.items ≡ drop (length answers.answers.items) lane.afters.items
     pub counting : becomes.counting ≡ lane.counting
     pub fetching : becomes.fetching ≡ lane.fetching
     pub said : becomes.said ≡ lane.said
-    -- each answer is one to the request of its position, and no work ends that was not launched
+    -- each answer is one to the request of its position
     pub fits : AllZip Fits (out_requests (theory.client_view lane.side).out) answers.answers.items
-    pub ends : answers.completions.items ≡ []
+    -- a launch has a ticket of its own, and each completion is that of a launch which lacked it, each of another
+    pub once : IsDistinct nat_eq (tickets_of (with_told lane answers))
+    pub ended : IsDistinct nat_eq (ended_tickets answers.completions.items)
+    pub ends : AllByRecursion (λ ticket. Contains (tickets_of (with_told lane answers)) ticket) (ended_tickets answers.completions.items)
 
   -- it looked for answers and found none
   pub record HasLooked (was now : Table) (lane becomes : Lane V C D O R T) (old new : Books V C D O R T) : Type 0 where
@@ -81,12 +78,15 @@ module _ {V O R T C D Table Owner : Type 0} (theory : Theory V O R T Table D Own
   abbrev pub free_trusts : Books V C D O R T → ℕ
   free_trusts books = books.most - (held_count books.held + books.coming)
 
-  -- what is due at a trustee where nothing is out: the first of what waits; where nothing waits, the Bye; else an empty batch
+  -- what is due at a trustee where nothing is out: the first of what waits; where nothing waits, the Bye; else an empty batch, where
+  -- `fetch` was called or a launch lacks its completion
   abbrev pub IsByeDue : Lane V C D O R T → Type 0
   IsByeDue lane = (lane.waits.items ≡ []) × (lane.closing ≡ true) × (has_bye (theory.client_view lane.side).sent ≡ false) × (lane.counting ≡ 0)
 
   abbrev pub IsFetchDue : Lane V C D O R T → Type 0
-  IsFetchDue lane = (lane.waits.items ≡ []) × (¬ (IsByeDue lane)) × (has_bye (theory.client_view lane.side).sent ≡ false) × (lane.fetching ≡ true)
+  IsFetchDue lane =
+      (lane.waits.items ≡ []) × (¬ (IsByeDue lane)) × (has_bye (theory.client_view lane.side).sent ≡ false)
+      × ((lane.fetching ≡ true) ⊎ (lane.launched.items ≢ []))
 
   -- b is due, and rest waits then
   abbrev pub IsDue : Lane V C D O R T → List (Request V O R T) → List (Request V O R T) → Type 0
@@ -107,6 +107,7 @@ module _ {V O R T C D Table Owner : Type 0} (theory : Theory V O R T Table D Own
     pub arrived : new.arrived ≡ old.arrived
     pub gifts : new.gifts ≡ old.gifts
     pub afters : becomes.afters ≡ lane.afters
+    pub launched : becomes.launched ≡ lane.launched
     pub counting : becomes.counting ≡ lane.counting
     pub fetching : becomes.fetching ≡ false
 

@@ -28,7 +28,7 @@ pub struct Refused<A> {
     pub back: A,
 }
 
-/// The answer to a request of a client.
+/// What comes of a request of a client: its answer, or the completion of its launch.
 #[derive(Drop)]
 pub enum Got<S: Entrusted> {
     /// The value was taken: a trust of it.
@@ -68,7 +68,16 @@ pub enum Turn {
     Idle,
 }
 
-/// An answer that came and was not taken: of which trustee, the request's name and continuation, and the answer.
+/// What came for a request.
+#[derive(Drop)]
+pub enum Came<S: Entrusted> {
+    /// The answer to it.
+    Answered(Answer<S>),
+    /// The reply with which the work ended that it launched.
+    Finished(S::Reply),
+}
+
+/// What came for a request and was not taken: of which trustee, the request's name and continuation, and what came.
 #[derive(Drop)]
 pub struct Arrival<S: Entrusted, C> {
     /// The number of the trustee.
@@ -77,6 +86,6 @@ pub struct Arrival<S: Entrusted, C> {
     pub name: Name,
     /// The continuation of the request.
     pub after: C,
-    /// The answer to the request.
-    pub answer: Answer<S>,
+    /// The answer to the request, or the completion of its launch.
+    pub came: Came<S>,
 }

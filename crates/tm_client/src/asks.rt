@@ -1,6 +1,6 @@
 //! The calls of a client that ask something of a trustee.
 ghost use Rattle.std.specs.Prelude.{◌≡◌, ℕ, ◌+◌, ◌<◌, ◌≤◌, ◌↔◌, true, false, length, slice_get, slice_set, IsTrue, OnOk, OnErr, IfErr, MatchOption};
-ghost use Rattle.tm_batch.specs.declared.message.Request.TheVariants.{Entrust, Apply, Grant};
+ghost use Rattle.tm_batch.specs.declared.message.Request.TheVariants.{Entrust, Apply, Launch, Grant};
 ghost use Rattle.tm_model.specs.State.{State};
 ghost use Rattle.tm_batch.specs.declared.limits.TheConstants.{WINDOW};
 ghost use Rattle.tm_client.specs.Asking.{IsHeldBy, At, IsClosing, IsFull, IsOpen, HasRoom, ApplyWhy, MayApply, GrantWhy, MayGrant, EntrustWhy, MayEntrust, HasAsked};
@@ -151,6 +151,34 @@ impl<S: FitsBatches, C: Drop, P: PairTable<S>> Client<S, C, P> {
             });
         }
         self.ask(trust.trustee, Request::Apply(trust.name, op), after);
+        Ok(())
+    }
+
+    /// Asks the trustee of a trust to launch work on the object. The continuation comes back with the reply with which
+    /// the work ends, or with the task where the last ticket was given out. Until that was taken the launch counts.
+    /// Refused as `apply_then` is. It takes a constant time, and a look at the whole list of trusts where the trust is not
+    /// held.
+    pub fn launch(
+        &mut self,
+        trust: &Trust,
+        task: S::Task,
+        after: C,
+    ) -> Result<(), Refused<(S::Task, C)>>
+        requires client { (openings : ℕ → State S S.Op S.Reply S.Task) × IsClient P.theory.client_view openings self.old.books }
+        ensures may { OnOk result (MayApply self.old.books trust.now) }
+        ensures asked { OnOk result (HasAsked trust.now.trustee (Launch trust.now.name task) after 0 self.old.books self.new.books) }
+        ensures why { IfErr result (λ r. ApplyWhy self.old.books trust.now r.why) }
+        ensures back { IfErr result (λ r. r.back ≡ (task, after)) }
+        ensures err { OnErr result (self.new ≡ self.old) }
+        ensures client { (openings : ℕ → State S S.Op S.Reply S.Task) → IsClient P.theory.client_view openings self.old.books → IsClient P.theory.client_view openings self.new.books }
+    {
+        if let Some(why) = self.why_not_apply(trust) {
+            return Err(Refused {
+                why,
+                back: (task, after),
+            });
+        }
+        self.ask(trust.trustee, Request::Launch(trust.name, task), after);
         Ok(())
     }
 

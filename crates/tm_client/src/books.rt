@@ -18,7 +18,7 @@ pub struct Books<S: FitsBatches, C, D> {
     pub(crate) lanes: Vec<Lane<S, C, D>>,
     // The trusts that it holds.
     pub(crate) held: Holds,
-    // The answers and the gifts that came and were not taken.
+    // The answers, the completions and the gifts that came and were not taken.
     pub(crate) arrived: HeapCircularBuffer<Arrival<S, C>>,
     pub(crate) gifts: HeapCircularBuffer<Trust>,
     // How many trusts may still come: entrusts and reclaims whose answers were not taken, gifts that were not taken, and the rooms of

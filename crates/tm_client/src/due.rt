@@ -1,5 +1,5 @@
 //! What is due at a trustee where nothing is out.
-ghost use Rattle.std.specs.Prelude.{◌≡◌, ◌≤◌, ◌<◌, ◌↔◌, [], ◌∷◌, ◌++◌, length, take, drop, MatchOption, IsTrue, false};
+ghost use Rattle.std.specs.Prelude.{◌≡◌, ◌≢◌, ◌≤◌, ◌<◌, ◌↔◌, ◌⊎◌, [], ◌∷◌, ◌++◌, length, take, drop, MatchOption, IsTrue, true, false};
 ghost use Rattle.std.specs.declared.option.Option.TheVariants.{Some};
 ghost use Rattle.tm_batch.specs.declared.batch.Batch.{Batch};
 ghost use Rattle.tm_batch.specs.declared.limits.TheConstants.{MOST_REQUESTS, MOST_ROOM};
@@ -63,13 +63,27 @@ impl<S: FitsBatches, C: Drop, D> Lane<S, C, D> {
         self.closing && !self.said && self.counting == 0
     }
 
+    /// Whether a launch lacks its completion.
+    fn has_launched(&self) -> bool
+        ensures { IsTrue result ↔ (self.now.launched.items ≢ []) }
+    {
+        !self.launched.is_empty()
+    }
+
+    /// Whether something is to be fetched: `fetch` was called since the last batch, or a launch lacks its completion.
+    fn is_fetching(&self) -> bool
+        ensures { IsTrue result ↔ ((self.now.fetching ≡ true) ⊎ (self.now.launched.items ≢ [])) }
+    {
+        self.fetching || self.has_launched()
+    }
+
     /// Whether an empty batch is due, where nothing waits and no Bye is due.
     fn is_fetch_due(&self) -> bool
         requires waits { self.now.waits.items ≡ [] }
         requires bye { ¬ (ByeDue self.now) }
         ensures { IsTrue result ↔ FetchDue self.now }
     {
-        !self.said && self.fetching
+        !self.said && self.is_fetching()
     }
 
     /// Whether nothing is due.

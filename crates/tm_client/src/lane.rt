@@ -15,6 +15,14 @@ pub struct Waiting<C> {
     pub(crate) name: Name,
 }
 
+/// What waits for the completion of a launch whose ticket came: the ticket, and the continuation and the name of its request.
+#[derive(Drop)]
+pub struct Unfinished<C> {
+    pub(crate) ticket: u64,
+    pub(crate) after: C,
+    pub(crate) name: Name,
+}
+
 /// What a client keeps for one trustee: its side there and what has not come back.
 #[derive(Drop)]
 pub struct Lane<S: FitsBatches, C, D> {
@@ -22,10 +30,12 @@ pub struct Lane<S: FitsBatches, C, D> {
     // The requests that wait, and what waits for the answers of all requests whose answers did not come, in order.
     pub(crate) waits: HeapCircularBuffer<Request<S>>,
     pub(crate) afters: HeapCircularBuffer<Waiting<C>>,
+    // The launches whose tickets came and whose completions did not, in the order of their tickets' coming.
+    pub(crate) launched: HeapCircularBuffer<Unfinished<C>>,
     // Whether a batch is out, and its room.
     pub(crate) out: bool,
     pub(crate) room: u32,
-    // How many requests count: those whose answers were not taken.
+    // How many requests count: those whose answers were not taken, and launches whose completions were not.
     pub(crate) counting: u32,
     // Whether `fetch` was called since the last batch was published, and whether `close` was called.
     pub(crate) fetching: bool,

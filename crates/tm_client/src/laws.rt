@@ -1,11 +1,13 @@
 //! Laws of a client's side, for every kind of object.
 //!
 //! Nothing here runs: each function states a law.
+ghost use Rattle.tm_client.specs.Tickets.{TicketsTell, CollectsEnd};
 ghost use Rattle.tm_client.specs.SideLaws.{WaitsMayGo, RestIsHeld, ByesMayGo, CollectsBring, AnswersAreOfEntries, HeldIsLive};
 
 use tm_seq::Entrusted;
 
-/// The first of the requests that wait are orderly to send.
+/// The first of the requests that wait are orderly to send, where no more launches lack their completion with them than
+/// the window.
 pub fn waits_may_go<S: Entrusted>()
     ensures { WaitsMayGo S.kind }
 {}
@@ -15,7 +17,7 @@ pub fn rest_is_held<S: Entrusted>()
     ensures { RestIsHeld S.kind }
 {}
 
-/// A Bye alone is orderly to send where none was sent and nothing was launched.
+/// A Bye alone is orderly to send where none was sent and no launch lacks its completion.
 pub fn byes_may_go<S: Entrusted>()
     ensures { ByesMayGo S.kind }
 {}
@@ -35,4 +37,15 @@ pub fn answers_are_of_entries<S: Entrusted>()
 /// that the log leaves which it has seen.
 pub fn held_is_live<S: Entrusted>()
     ensures { HeldIsLive S.kind }
+{}
+
+/// What came to a side tells which of its launches wait: a ticket comes once, its completion comes
+/// once and after it, and each launch that was sent is out, waits for its completion, or ended.
+pub fn tickets_tell<S: Entrusted>()
+    ensures { TicketsTell S.kind }
+{}
+
+/// What a side collects ends launches that waited or whose tickets come with it, each once.
+pub fn collects_end<S: Entrusted>()
+    ensures { CollectsEnd S.kind }
 {}

@@ -9,7 +9,8 @@ use crate::client::Client;
 use tm_pair::{FitsBatches, PairTable};
 
 impl<S: FitsBatches, C: Drop, P: PairTable<S>> Client<S, C, P> {
-    /// How many requests count at a trustee: those whose answers were not taken.
+    /// How many requests count at a trustee: those whose answers were not taken, and the launches whose completions were
+    /// not.
     pub fn counting(&self, trustee: u32) -> u32
         requires { trustee < length self.now.books.lanes.items }
         ensures { At self.now.books trustee (λ lane. result ≡ lane.counting) }
@@ -27,7 +28,8 @@ impl<S: FitsBatches, C: Drop, P: PairTable<S>> Client<S, C, P> {
         lane.fetching = true;
     }
 
-    /// No further request is accepted at a trustee; once nothing counts, a turn sends the `Bye`.
+    /// No further request is accepted at a trustee; once nothing counts, a turn sends the `Bye`. So it waits until each
+    /// answer was taken, and the completion of each launch.
     pub fn close(&mut self, trustee: u32)
         requires trustee { trustee < length self.old.books.lanes.items }
         ensures marked { HasMarked trustee (λ fetching. fetching) (λ _. true) self.old.books self.new.books }

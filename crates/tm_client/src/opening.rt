@@ -25,10 +25,12 @@ fn lane_of<S: FitsBatches, C: Drop, D: Drop>(
 {
     let waits = HeapCircularBuffer::with_capacity(alloc, WINDOW)?;
     let afters = HeapCircularBuffer::with_capacity(alloc, WINDOW)?;
+    let launched = HeapCircularBuffer::with_capacity(alloc, WINDOW)?;
     Ok(Lane {
         side,
         waits,
         afters,
+        launched,
         out: false,
         room: 0,
         counting: 0,
@@ -78,7 +80,7 @@ impl<S: FitsBatches, C: Drop, P: PairTable<S>> Client<S, C, P> {
     /// Client `number` of a runtime built from a config and a list of objects, and the trusts of what it holds at
     /// first, in the order of `held`. `sides` are its sides at the trustees, in their order, each as its table's `new`
     /// gave it, and `held` are the objects of which it is a holder, by their trustees' numbers. All room is reserved:
-    /// for [`WINDOW`] requests at each trustee and their answers, and for `config.trusts` trusts. An error is want of
+    /// for [`WINDOW`] requests at each trustee with their answers and completions, and for `config.trusts` trusts. An error is want of
     /// memory.
     pub fn new(
         alloc: Global,

@@ -1,11 +1,11 @@
 //! The calls of a client that hand out what came.
 ghost use Rattle.std.specs.Prelude.{◌≡◌, ℕ, ◌+◌, ◌<◌, ◌≤◌, [], MatchOption};
 ghost use Rattle.tm_model.specs.State.{State};
-ghost use Rattle.tm_client.specs.Clients.{IsClient, IsTakeable, brings};
+ghost use Rattle.tm_client.specs.Clients.{IsClient, IsTakeable, MayHand, brings, brings_by};
 ghost use Rattle.tm_client.specs.Listing.{held_count, room_for};
-ghost use Rattle.tm_client.specs.Taking.{IsListed, IsGot, HasTaken, HasTakenGift};
+ghost use Rattle.tm_client.specs.Taking.{IsListed, IsGot, IsHanded, HasTaken, HasTakenGift};
 
-use crate::answers::Got;
+use crate::answers::{Came, Got};
 use crate::books::Books;
 use crate::client::Client;
 use crate::holds::{Hold, Holds};
@@ -55,6 +55,7 @@ fn got_of<S: FitsBatches>(
             Got::NotEntrusted(refusal, value)
         }
         Answer::Replied(reply) => Got::Replied(reply),
+        Answer::TicketsSpent(task) => Got::TicketsSpent(task),
         Answer::Granted => Got::Granted,
         Answer::Gone => Got::Gone,
         Answer::GiftsFull => Got::GiftsFull,
@@ -67,12 +68,36 @@ fn got_of<S: FitsBatches>(
             *coming -= 1;
             Got::Shared(hold(held, client, trustee, asked))
         }
-        Answer::Launched(_) | Answer::TicketsSpent(_) | Answer::ByeDone => unreachable!(),
+        Answer::Launched(_) | Answer::ByeDone => unreachable!(),
+    }
+}
+
+/// What is handed out for what came for a request that had this name. A trust that it brings is put into the client's
+/// list, and fewer may come then.
+fn handed<S: FitsBatches>(
+    held: &mut Holds,
+    coming: &mut u32,
+    client: u32,
+    trustee: u32,
+    asked: Name,
+    came: Came<S>,
+) -> Got<S>
+    requires takeable { MayHand came }
+    requires coming { brings_by came ≤ coming.old }
+    requires room { held_count held.old + brings_by came ≤ room_for held.old }
+    ensures got { IsHanded trustee client asked came result held.old held.new }
+    ensures coming { coming.old ≡ coming.new + brings_by came }
+{
+    match came {
+        Came::Answered(answer) => got_of(held, coming, client, trustee, asked, answer),
+        Came::Finished(reply) => Got::Finished(reply),
     }
 }
 
 impl<S: FitsBatches, C: Drop, P: PairTable<S>> Client<S, C, P> {
-    /// The continuation of the answer that came first and was not taken, with what came; `None` where none waits.
+    /// The continuation of what came first and was not taken, with what came; `None` where nothing waits. Of one trustee
+    /// answers come out in the order of the requests; a launch comes out when its completion came, or where it was
+    /// refused.
     pub fn next(&mut self) -> Option<(C, Got<S>)>
         requires client { (openings : ℕ → State S S.Op S.Reply S.Task) × IsClient P.theory.client_view openings self.old.books }
         ensures next { MatchOption result ((self.old.books.arrived.items ≡ []) × (self.new ≡ self.old)) (λ taken. HasTaken taken.0 taken.1 self.old.books self.new.books) }
@@ -83,13 +108,13 @@ impl<S: FitsBatches, C: Drop, P: PairTable<S>> Client<S, C, P> {
             return None;
         };
         books.lanes[arrival.trustee as usize].counting -= 1;
-        let got = got_of(
+        let got = handed(
             &mut books.held,
             &mut books.coming,
             books.number,
             arrival.trustee,
             arrival.name,
-            arrival.answer,
+            arrival.came,
         );
         Some((arrival.after, got))
     }

@@ -16,11 +16,13 @@ impl<S: FitsBatches, C: Drop, P: PairTable<S>> Client<S, C, P> {
     /// Makes one turn at a trustee, of which `table` is the table. Where a batch is out, it looks for the answers,
     /// and takes in those that it finds. Else it publishes what is due: the first of the requests that wait, at most
     /// 16; where none waits, the `Bye`, where `close` was called, none was sent and nothing counts; else an empty
-    /// batch, where `fetch` was called since the last batch and no `Bye` was sent. With a batch goes room for as
-    /// many gifts as trusts are free, at most 16.
+    /// batch, where no `Bye` was sent and `fetch` was called since the last batch or a launch lacks its completion.
+    /// With a batch goes room for as many gifts as trusts are free, at most 16.
     ///
     /// It says what it did: that answers came, that none did, that a batch went, or that nothing was out and
-    /// nothing due. It takes a constant time and what the batch costs, allocates nothing and never waits.
+    /// nothing due. It takes a constant time and what the batch costs, allocates nothing and never waits. A
+    /// completion costs a constant time where it is that of the launch whose ticket came first of those that lack
+    /// theirs, else a pass over these, at most 64.
     pub fn turn(&mut self, table: &mut P, trustee: u32) -> Turn
         requires trustee { trustee < length self.old.books.lanes.items }
         requires mine { At self.old.books trustee (λ lane. P.theory.HasClient table.old lane.side) }

@@ -2,8 +2,8 @@ use Rattle.std.proofs.Common.{◌≢◌, length, refl, length-set, arith}
 use Rattle.std.specs.declared.option.Option.TheVariants.{None}
 use Rattle.std.proofs.lemmas.Option.{slice_get_read}
 use Rattle.tm_client.proofs.Fronts.{some_has}
-use Rattle.tm_client.proofs.Looking.{may_receive, looked_may_receive}
-use Rattle.tm_client.proofs.Turned.{got_keeps, got_turned, pending_keeps, pending_turned}
+use Rattle.tm_client.proofs.Looking.{looked_may_receive}
+use Rattle.tm_client.proofs.Turned.{may_take, got_keeps, got_turned, pending_keeps, pending_turned}
 use Rattle.tm_client.proofs.client.Client.look.Goals as goal
 
 pub collect-requires : goal.collect-requires
@@ -22,7 +22,10 @@ take_in-requires g c =
     let lane = c.index_mut.result.now in
     let there = slice_get_read books.lanes.items (length books.lanes.items) c.args.trustee lane refl c.requires.trustee c.index_mut.ensures.value in
     let (openings, same, is) = c.requires.client in
-    let may = may_receive theory.client_view openings c.args.trustee c.in-Answers.answers lane books (theory.client_view c.collect.new.side) is there c.in-Answers.ensures.collects in
+    let mine = some_has _ lane (λ lane. theory.HasClient c.args.table.now lane.side) there c.requires.mine in
+    let may =
+    may_take theory g.S.Entrusted.kind g.met.P.PairTable.laws openings c.args.trustee c.args.table.now c.collect.new.self lane c.collect.new.side books is there same
+    mine c.in-Answers.ensures.keeps c.in-Answers.answers c.in-Answers.ensures.collects in
     let looked = record lane { side = c.collect.new.side } in (
       g.met.S.FitsAnswers.fits,
       (

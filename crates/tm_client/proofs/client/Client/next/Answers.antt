@@ -24,20 +24,21 @@ returns-clause-next g c =
     slice_get_read c.args.self.now.books.lanes.items (length c.args.self.now.books.lanes.items) c.in-Some.arrival.trustee c.index_mut.result.now refl one.within
     c.index_mut.ensures.value in
     record {
-      answer = c.in-Some.arrival.answer;
+      came = c.in-Some.arrival.came;
       name = c.in-Some.arrival.name;
       t = c.in-Some.arrival.trustee;
       lane = c.index_mut.result.now;
       becomes = _;
       first = rw c.pop_front.ensures.items (taken.first_drop c.args.self.now.books.arrived.items c.in-Some.arrival e);
       capacity = rw c.pop_front.ensures.items refl;
-      is_got = c.got_of-got.ensures.got;
-      coming = c.got_of-got.ensures.coming;
+      is_got = c.handed-got.ensures.got;
+      coming = c.handed-got.ensures.coming;
       of_lane = there;
       counts = record {
         side = refl;
         waits = refl;
         afters = refl;
+        launched = refl;
         counting = taken.back_again c.index_mut.result.now.counting 1 (one.counts c.index_mut.result.now there);
         out = refl;
         room = refl;
@@ -59,21 +60,22 @@ returns-clause-client g c = λ openings is.
     let there =
     slice_get_read c.args.self.now.books.lanes.items (length c.args.self.now.books.lanes.items) c.in-Some.arrival.trustee c.index_mut.result.now refl one.within
     c.index_mut.ensures.value in
-    taken.taking_keeps g.P.PairTable.theory.client_view openings c.in-Some.arrival.after c.got_of-got.result c.args.self.now.books _ is (record {
-      answer = c.in-Some.arrival.answer;
+    taken.taking_keeps g.P.PairTable.theory.client_view openings c.in-Some.arrival.after c.handed-got.result c.args.self.now.books _ is (record {
+      came = c.in-Some.arrival.came;
       name = c.in-Some.arrival.name;
       t = c.in-Some.arrival.trustee;
       lane = c.index_mut.result.now;
       becomes = _;
       first = rw c.pop_front.ensures.items (taken.first_drop c.args.self.now.books.arrived.items c.in-Some.arrival e);
       capacity = rw c.pop_front.ensures.items refl;
-      is_got = c.got_of-got.ensures.got;
-      coming = c.got_of-got.ensures.coming;
+      is_got = c.handed-got.ensures.got;
+      coming = c.handed-got.ensures.coming;
       of_lane = there;
       counts = record {
         side = refl;
         waits = refl;
         afters = refl;
+        launched = refl;
         counting = taken.back_again c.index_mut.result.now.counting 1 (one.counts c.index_mut.result.now there);
         out = refl;
         room = refl;

@@ -62,6 +62,7 @@ returns-clause-client g c = λ openings same is.
       goes = left_goes posts.batch.requests.items lane c.post_due-count.new.lane posts.leaves;
       waits_room = posts.waits_room;
       afters = posts.afters;
+      launched = posts.launched;
       counting = posts.counting;
       fetching = posts.fetching;
       closing = posts.closing;
@@ -109,6 +110,7 @@ returns-clause-turned g c =
         arrived = refl;
         gifts = refl;
         afters = posts.afters;
+        launched = posts.launched;
         counting = posts.counting;
         fetching = posts.fetching;
       };

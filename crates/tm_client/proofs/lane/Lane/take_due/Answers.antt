@@ -1,4 +1,4 @@
-use Rattle.std.proofs.Common.{refl}
+use Rattle.std.proofs.Common.{inr, refl}
 use Rattle.tm_client.proofs.Fronts.{empty_of}
 use Rattle.tm_client.proofs.lane.Lane.take_due.Goals as goal
 
@@ -17,3 +17,19 @@ returns-clause-due g c = (
   ),
   refl,
 )
+
+pub returns-then-is_fetch_due-clause-due : goal.returns-then-is_fetch_due-clause-due
+returns-then-is_fetch_due-clause-due g c =
+    let due = c.if-is_fetch_due.ensures.0 refl in
+    record {
+      leaves = inr (inr (due, c.new.ensures.requests, due.0, refl));
+      side = refl;
+      waits_room = refl;
+      afters = refl;
+      launched = refl;
+      counting = refl;
+      fetching = refl;
+      closing = refl;
+      out = refl;
+      room = refl;
+    }
