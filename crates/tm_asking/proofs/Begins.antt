@@ -71,6 +71,7 @@ module _ {V O R T D Table Owner : Type 0} (theory : Theory V O R T Table D Owner
             out_apply = subst (λ l. AllByRecursion IsApply l) (sym nothing_out) tt;
           };
           is_open = open_all t lane there;
+          unlaunched = rest.launched;
           sent = ap (λ l. (theory.client_view lane.side).sent ++ l) rest.waits;
           waits_apply = subst (λ l. AllByRecursion IsApply l) (sym rest.waits) tt;
           taken = [];

@@ -13,6 +13,7 @@ use Rattle.tm_batch.specs.declared.message.Request.TheVariants.{Entrust, Apply, 
 use Rattle.tm_batch.specs.declared.message.Answer.{Answer}
 use Rattle.tm_batch.specs.declared.message.Answer.TheVariants.{Replied}
 use Rattle.tm_batch.specs.declared.message.AnswerBatch.{AnswerBatch}
+use Rattle.tm_batch.specs.declared.message.Completion.{Completion}
 use Rattle.tm_model.specs.State.{State}
 use Rattle.tm_model.specs.Lists.{IsPrefix}
 use Rattle.tm_model.specs.Fits.{Fits}
@@ -22,18 +23,22 @@ use Rattle.tm_pair.specs.Views.{ClientView}
 use Rattle.tm_pair.specs.Theory.{Theory}
 use Rattle.tm_client.specs.declared.lane.Lane.{Lane}
 use Rattle.tm_client.specs.declared.lane.Waiting.{Waiting}
+use Rattle.tm_client.specs.declared.lane.Unfinished.{Unfinished}
 use Rattle.tm_client.specs.declared.answers.Arrival.{Arrival}
+use Rattle.tm_client.specs.declared.answers.Came.TheVariants.{Answered}
 use Rattle.tm_client.specs.declared.answers.Turn.{Turn}
 use Rattle.tm_client.specs.declared.answers.Turn.TheVariants as turn
 use Rattle.tm_client.specs.declared.books.Books.{Books}
 use Rattle.tm_client.specs.Lanes.{asks_in, out_requests}
 use Rattle.tm_client.specs.Clients.{IsClient}
-use Rattle.tm_client.specs.Turns.{arrivals_of, IsDue, HasGot, HasLooked, HasSent, HasTurned}
+use Rattle.tm_client.specs.Launches.{ticket_in, ended_tickets, launches_left, arrival_by, arrivals_of, launches_of, finished_by, finished_of, with_told}
+use Rattle.tm_client.specs.Turns.{IsDue, HasGot, HasLooked, HasSent, HasTurned}
 use Rattle.tm_client.proofs.Accepting.{as_many_wait}
 use Rattle.tm_client.proofs.Looking.{as_many}
 use Rattle.tm_client.proofs.Elements.{set_cases}
+use Rattle.tm_client.proofs.Moving.{told_or_plain, arrival_plain, launch_plain}
 use Rattle.tm_asking.specs.Questions.{Question}
-use Rattle.tm_asking.specs.Asking.{IsApply, come_at, IsReply, IsSideAsked, IsAskedAt, IsAsking}
+use Rattle.tm_asking.specs.Asking.{IsApply, answer_in, come_at, IsReply, IsSideAsked, IsAskedAt, IsAsking}
 use Rattle.tm_asking.proofs.Replied.{apply_asks}
 use Rattle.tm_asking.proofs.Taking.{come_here, come_other}
 
@@ -50,7 +55,7 @@ module _ {V O R T : Type 0} where
   come_more t [] ys = refl
   come_more t (x ∷ xs) ys =
       elim (cases_eq x.trustee t) [
-        | inl e ↦ come_here t x (xs ++ ys) e ∙ ap (λ l. (x.after, x.answer) ∷ l) (come_more t xs ys) ∙ ap (λ l. l ++ come_at t ys) (sym (come_here t x xs e))
+        | inl e ↦ come_here t x (xs ++ ys) e ∙ ap (λ l. (x.after, answer_in x.came) ∷ l) (come_more t xs ys) ∙ ap (λ l. l ++ come_at t ys) (sym (come_here t x xs e))
         | inr ne ↦ come_other t x (xs ++ ys) ne ∙ come_more t xs ys ∙ ap (λ l. l ++ come_at t ys) (sym (come_other t x xs ne))
       ]
 
@@ -59,16 +64,6 @@ module _ {V O R T : Type 0} where
   paired [] answers = []
   paired (w ∷ ws) [] = []
   paired (w ∷ ws) (a ∷ answers) = (w.after, a) ∷ paired ws answers
-
-  arrive_here : (t : ℕ) (ws : List (Waiting ℕ)) (answers : List (Answer V O R T)) → come_at t (arrivals_of t ws answers) ≡ paired ws answers
-  arrive_here t [] answers = refl
-  arrive_here t (w ∷ ws) [] = refl
-  arrive_here t (w ∷ ws) (a ∷ answers) = come_here t (record { trustee = t; name = w.name; after = w.after; answer = a }) (arrivals_of t ws answers) refl ∙ ap (λ l. (w.after, a) ∷ l) (arrive_here t ws answers)
-
-  arrive_elsewhere : (u t : ℕ) (ws : List (Waiting ℕ)) (answers : List (Answer V O R T)) → u ≢ t → come_at u (arrivals_of t ws answers) ≡ []
-  arrive_elsewhere u t [] answers ne = refl
-  arrive_elsewhere u t (w ∷ ws) [] ne = refl
-  arrive_elsewhere u t (w ∷ ws) (a ∷ answers) ne = come_other u (record { trustee = t; name = w.name; after = w.after; answer = a }) (arrivals_of t ws answers) (λ e. ne (sym e)) ∙ arrive_elsewhere u t ws answers ne
 
   paired_numbers : (ws : List (Waiting ℕ)) (answers : List (Answer V O R T)) → length answers ≤ length ws
       → map (λ c. c.0) (paired ws answers) ++ map (λ w. w.after) (drop (length answers) ws) ≡ map (λ w. w.after) ws
@@ -92,6 +87,47 @@ module _ {V O R T : Type 0} where
   one_reply (Release name) n a own fits = absurd own
   one_reply (Reclaim name) n a own fits = absurd own
   one_reply Bye n a own fits = absurd own
+
+  -- what arrives with the answers to operations: each continuation with its answer, and no launch begins
+  arrive_here : (t : ℕ) (b : List (Request V O R T)) (ws : List (Waiting ℕ)) (answers : List (Answer V O R T)) → AllByRecursion IsApply b → AllZip Fits b answers
+      → come_at t (arrivals_of t ws answers) ≡ paired ws answers
+  arrive_here t b [] answers own fits = refl
+  arrive_here t b (w ∷ ws) [] own fits = refl
+  arrive_here t [] (w ∷ ws) (a ∷ answers) own fits = absurd fits
+  arrive_here t (q ∷ b) (w ∷ ws) (a ∷ answers) own fits =
+      let (r, is) = one_reply q w.after a own.0 fits.0 in
+      ap (λ l. come_at t (l ++ arrivals_of t ws answers)) (arrival_plain t w a (ap ticket_in is))
+      ∙ come_here t (record { trustee = t; name = w.name; after = w.after; came = Answered a }) (arrivals_of t ws answers) refl
+      ∙ ap (λ l. (w.after, a) ∷ l) (arrive_here t b ws answers own.1 fits.1)
+
+  none_begins : (b : List (Request V O R T)) (ws : List (Waiting ℕ)) (answers : List (Answer V O R T)) → AllByRecursion IsApply b → AllZip Fits b answers
+      → launches_of ws answers ≡ []
+  none_begins b [] answers own fits = refl
+  none_begins b (w ∷ ws) [] own fits = refl
+  none_begins [] (w ∷ ws) (a ∷ answers) own fits = absurd fits
+  none_begins (q ∷ b) (w ∷ ws) (a ∷ answers) own fits =
+      let (r, is) = one_reply q w.after a own.0 fits.0 in
+      ap (λ l. l ++ launches_of ws answers) (launch_plain w a (ap ticket_in is)) ∙ none_begins b ws answers own.1 fits.1
+
+  one_elsewhere : (u t : ℕ) (w : Waiting ℕ) (a : Answer V O R T) → u ≢ t → come_at u (arrival_by t w a) ≡ []
+  one_elsewhere u t w a ne = elim (told_or_plain a) [
+    | inl (ticket, e) ↦ rw e refl
+    | inr plain ↦
+        ap (come_at u) (arrival_plain t w a plain)
+        ∙ come_other u (record { trustee = t; name = w.name; after = w.after; came = Answered a }) [] (λ e. ne (sym e))
+  ]
+
+  arrive_elsewhere : (u t : ℕ) (ws : List (Waiting ℕ)) (answers : List (Answer V O R T)) → u ≢ t → come_at u (arrivals_of t ws answers) ≡ []
+  arrive_elsewhere u t [] answers ne = refl
+  arrive_elsewhere u t (w ∷ ws) [] ne = refl
+  arrive_elsewhere u t (w ∷ ws) (a ∷ answers) ne =
+      come_more u (arrival_by t w a) (arrivals_of t ws answers) ∙ ap (λ l. l ++ come_at u (arrivals_of t ws answers)) (one_elsewhere u t w a ne)
+      ∙ arrive_elsewhere u t ws answers ne
+
+  -- without launches nothing arrives with completions
+  none_finish : {C : Type 0} (t : ℕ) (ls : List (Unfinished C)) (xs : List (Completion V O R T)) → ls ≡ [] → finished_of t ls xs ≡ []
+  none_finish t ls [] e = refl
+  none_finish t ls (x ∷ xs) e = ap (λ l. finished_by t l x ++ finished_of t ls xs) e ∙ none_finish t ls xs e
 
   all_reply : (b : List (Request V O R T)) (ws : List (Waiting ℕ)) (answers : List (Answer V O R T)) → AllByRecursion IsApply b → AllZip Fits b answers
       → AllByRecursion IsReply (paired ws answers)
@@ -143,6 +179,7 @@ module _ {V O R T D Table Owner : Type 0} (theory : Theory V O R T Table D Owner
                     let a = is.lanes u lane there in record {
                       side = a.side;
                       is_open = a.is_open;
+                      unlaunched = a.unlaunched;
                       sent = a.sent;
                       waits_apply = a.waits_apply;
                       taken = a.taken;
@@ -168,13 +205,26 @@ module _ {V O R T D Table Owner : Type 0} (theory : Theory V O R T Table D Owner
           let all = ap length (apply_asks out at.side.out_apply) in
           omega (arith, many, afters, joined, all)
 
+      -- no launch lacks its completion, so nothing arrives but the answers
+      none_told : with_told h.lane got.answers ≡ []
+      none_told =
+          ap (λ l. l ++ launches_of h.lane.afters.items got.answers.answers.items) at.unlaunched
+          ∙ none_begins out h.lane.afters.items got.answers.answers.items at.side.out_apply got.fits
+
+      arrived_is : new.arrived.items ≡ old.arrived.items ++ arrivals_of t h.lane.afters.items got.answers.answers.items
+      arrived_is =
+          got.arrived
+          ∙ ap (λ l. old.arrived.items ++ (arrivals_of t h.lane.afters.items got.answers.answers.items ++ l))
+          (none_finish t (with_told h.lane got.answers) got.answers.completions.items none_told)
+          ∙ ap (λ l. old.arrived.items ++ l) (append-nil (arrivals_of t h.lane.afters.items got.answers.answers.items))
+
       abbrev news : List (ℕ × Answer V O R T)
       news = paired h.lane.afters.items got.answers.answers.items
 
       come_is : come_at t new.arrived.items ≡ come_at t old.arrived.items ++ news
       come_is =
-          ap (λ xs. come_at t xs) got.arrived ∙ come_more t old.arrived.items _
-          ∙ ap (λ l. come_at t old.arrived.items ++ l) (arrive_here t h.lane.afters.items got.answers.answers.items)
+          ap (λ xs. come_at t xs) arrived_is ∙ come_more t old.arrived.items _
+          ∙ ap (λ l. come_at t old.arrived.items ++ l) (arrive_here t out h.lane.afters.items got.answers.answers.items at.side.out_apply got.fits)
 
       all_is : at.taken ++ come_at t new.arrived.items ≡ (at.taken ++ come_at t old.arrived.items) ++ news
       all_is = ap (λ l. at.taken ++ l) come_is ∙ sym (append_assoc at.taken (come_at t old.arrived.items) news)
@@ -183,6 +233,7 @@ module _ {V O R T D Table Owner : Type 0} (theory : Theory V O R T Table D Owner
       got_here = record {
         side = side_on got.gets.place (subst (λ o. AllByRecursion IsApply (out_requests o)) (sym got.gets.out) tt);
         is_open = h.turns.closing ∙ at.is_open;
+        unlaunched = got.launched ∙ ap (launches_left (ended_tickets got.answers.completions.items)) none_told;
         sent = ap (λ l. l ++ h.becomes.waits.items) got.gets.sent ∙ ap (λ w. (theory.client_view h.lane.side).sent ++ w.items) got.waits ∙ at.sent;
         waits_apply = subst (λ w. AllByRecursion IsApply w.items) (sym got.waits) at.waits_apply;
         taken = at.taken;
@@ -211,7 +262,7 @@ module _ {V O R T D Table Owner : Type 0} (theory : Theory V O R T Table D Owner
       got_goes_on : IsAsking theory.client_view was asked replies new
       got_goes_on =
           whole
-          (λ u ne. ap (λ xs. come_at u xs) got.arrived ∙ come_more u old.arrived.items _
+          (λ u ne. ap (λ xs. come_at u xs) arrived_is ∙ come_more u old.arrived.items _
           ∙ ap (λ l. come_at u old.arrived.items ++ l) (arrive_elsewhere u t h.lane.afters.items got.answers.answers.items ne) ∙ append-nil (come_at u old.arrived.items))
           got_here
 
@@ -227,6 +278,7 @@ module _ {V O R T D Table Owner : Type 0} (theory : Theory V O R T Table D Owner
           side = side_on looked.pending.place
               (subst (λ o. AllByRecursion IsApply (out_requests o)) (was_out ∙ sym is_out) at.side.out_apply);
           is_open = h.turns.closing ∙ at.is_open;
+          unlaunched = ap (λ (l : Lane V ℕ D O R T). l.launched.items) looked.stays ∙ at.unlaunched;
           sent = ap (λ l. l ++ h.becomes.waits.items) looked.pending.sent ∙ ap (λ l. (theory.client_view h.lane.side).sent ++ l) waits ∙ at.sent;
           waits_apply = subst (λ l. AllByRecursion IsApply l) (sym waits) at.waits_apply;
           taken = at.taken;
@@ -247,6 +299,7 @@ module _ {V O R T D Table Owner : Type 0} (theory : Theory V O R T Table D Owner
         whole (λ u ne. ap (λ xs. come_at u xs) arrived) (record {
           side = side_on sent.publishes.place (subst (λ o. AllByRecursion IsApply (out_requests o)) (sym sent.publishes.out) apply.0);
           is_open = h.turns.closing ∙ at.is_open;
+          unlaunched = ap (λ l. l.items) sent.launched ∙ at.unlaunched;
           sent = ap (λ l. l ++ h.becomes.waits.items) sent.publishes.sent
               ∙ append_assoc (theory.client_view h.lane.side).sent sent.batch.requests.items h.becomes.waits.items
               ∙ ap (λ l. (theory.client_view h.lane.side).sent ++ l) parts ∙ at.sent;

@@ -47,6 +47,7 @@ module _ {V O R T D : Type 0} (view : D → ClientView V O R T) where
   asked_here t n was asked replies arrived lane becomes trust op a h is many = record {
     side = subst (λ s. IsSideAsked was (view s)) (sym h.side) a.side;
     is_open = h.closing ∙ a.is_open;
+    unlaunched = ap (λ l. l.items) h.launched ∙ a.unlaunched;
     sent =
         ap (λ s. (view s).sent ++ becomes.waits.items) h.side ∙ ap (λ ws. (view lane.side).sent ++ ws) h.waits
         ∙ sym (append_assoc (view lane.side).sent lane.waits.items (Apply trust.name op ∷ [])) ∙ ap (λ xs. xs ++ Apply trust.name op ∷ []) a.sent
@@ -70,6 +71,7 @@ module _ {V O R T D : Type 0} (view : D → ClientView V O R T) where
   asked_elsewhere t was asked replies arrived lane q a ne = record {
     side = a.side;
     is_open = a.is_open;
+    unlaunched = a.unlaunched;
     sent = a.sent ∙ ap (λ xs. was.sent ++ xs) (sym (no_request t asked q ne));
     waits_apply = a.waits_apply;
     taken = a.taken;

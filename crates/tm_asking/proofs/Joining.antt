@@ -12,7 +12,7 @@ use Rattle.tm_core.proofs.AllAnswers.{as_many}
 use Rattle.tm_core.proofs.Longer.{answered-append}
 use Rattle.tm_core.proofs.Marks.{ran-append}
 use Rattle.tm_pair.specs.Views.{ClientView}
-use Rattle.tm_client.proofs.Receiving.{none_left}
+use Rattle.tm_client.proofs.Told.{none_left}
 use Rattle.tm_asking.specs.Questions.{Question, requests_at, replies_at, HasEnded, IsReplyOf, HasAskedAll, HasAskedSome}
 use Rattle.tm_asking.proofs.Dealing.{requests_more}
 

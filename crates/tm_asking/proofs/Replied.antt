@@ -22,9 +22,9 @@ use Rattle.tm_client.specs.declared.books.Books.{Books}
 use Rattle.tm_client.specs.Lanes.{asks_in, out_requests, unanswered, IsLane}
 use Rattle.tm_client.specs.Clients.{come_of, IsClient}
 use Rattle.tm_client.proofs.Accepting.{as_many_wait}
-use Rattle.tm_client.proofs.Receiving.{none_left}
+use Rattle.tm_client.proofs.Told.{none_left}
 use Rattle.tm_asking.specs.Questions.{Question, requests_at, replies_at, IsReplyOf, HasAskedAll}
-use Rattle.tm_asking.specs.Asking.{numbers_at, IsApply, come_at, IsNoted, IsSettled, IsAskedAt, IsAsking, AreReplied, AreBegun, NoneCounts, side_in, sides_of}
+use Rattle.tm_asking.specs.Asking.{numbers_at, IsApply, answer_in, come_at, IsNoted, IsSettled, IsAskedAt, IsAsking, AreReplied, AreBegun, NoneCounts, side_in, sides_of}
 
 module _ {X : Type 0} where
   at_front : (front : List X) (x : X) (xs : List X) (n : ℕ) → n ≡ length front → slice_get (front ++ x ∷ xs) n ≡ Some x
@@ -111,7 +111,7 @@ module _ {V O R T : Type 0} where
         | inl is ↦ absurd (let one = ap {B = ℕ} (λ b. cond b 1 0) (eq-eqb a.trustee t is) in omega (arith, e, one))
         | inr ne ↦
             let none = ap {B = ℕ} (λ b. cond b 1 0) (ne_eqb a.trustee t ne) in
-            ap (λ b. cond b ((a.after, a.answer) ∷ come_at t arrived) (come_at t arrived)) (ne_eqb a.trustee t ne)
+            ap (λ b. cond b ((a.after, answer_in a.came) ∷ come_at t arrived) (come_at t arrived)) (ne_eqb a.trustee t ne)
             ∙ none_come t arrived (omega (arith, e, none))
       ]
 
@@ -137,6 +137,7 @@ module _ {V O R T D : Type 0} (view : D → ClientView V O R T) where
     pub waits : lane.waits.items ≡ []
     pub out : asks_in (out_requests (view lane.side).out) ≡ []
     pub afters : lane.afters.items ≡ []
+    pub launched : lane.launched.items ≡ []
     pub come : come_at t arrived ≡ []
 
   pub lane_at_rest :
@@ -151,6 +152,7 @@ module _ {V O R T D : Type 0} (view : D → ClientView V O R T) where
         waits = both.1;
         out = both.0;
         afters = none_left lane.afters.items (omega (arith, many, nothing));
+        launched = none_left lane.launched.items (omega (arith, counts, none));
         come = none_come t arrived (omega (arith, counts, none));
       }
 
@@ -203,6 +205,7 @@ module _ {V O R T D : Type 0} (view : D → ClientView V O R T) where
         out_apply = a.side.out_apply;
       };
       is_open = a.is_open;
+      unlaunched = a.unlaunched;
       sent = ap (λ xs. (view lane.side).sent ++ xs) rest.waits;
       waits_apply = a.waits_apply;
       taken = [];

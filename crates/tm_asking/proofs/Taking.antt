@@ -13,26 +13,33 @@ use Rattle.tm_pair.specs.Views.{ClientView}
 use Rattle.tm_client.specs.declared.lane.Lane.{Lane}
 use Rattle.tm_client.specs.declared.holds.Holds.{Holds}
 use Rattle.tm_client.specs.declared.answers.Arrival.{Arrival}
+use Rattle.tm_client.specs.declared.answers.Came.{Came}
+use Rattle.tm_client.specs.declared.answers.Came.TheVariants.{Answered, Finished}
 use Rattle.tm_client.specs.declared.answers.Got.{Got}
 use Rattle.tm_client.specs.declared.answers.Got.TheVariants.{Replied as ReplyOf}
 use Rattle.tm_client.specs.declared.books.Books.{Books}
-use Rattle.tm_client.specs.Taking.{IsGot, HasTaken}
+use Rattle.tm_client.specs.Taking.{IsGot, IsHanded, HasTaken}
 use Rattle.tm_client.proofs.Elements.{set_cases}
 use Rattle.tm_client.proofs.Fronts.{set_there}
 use Rattle.tm_asking.specs.Questions.{Question}
-use Rattle.tm_asking.specs.Asking.{numbers_at, IsApply, come_at, IsReply, IsNoted, IsSideAsked, IsAskedAt, IsAsking}
+use Rattle.tm_asking.specs.Asking.{numbers_at, IsApply, answer_in, come_at, IsReply, IsNoted, IsSideAsked, IsAskedAt, IsAsking}
 use Rattle.tm_asking.proofs.Dealing.{IsOneOf, one_in_front, one_behind, each_in_front, all_under, number_is, number_below, number_once, numbers_rise, noted_other}
 
 module _ {V O R T : Type 0} where
-  pub come_here : (t : ℕ) (a : Arrival V ℕ O R T) (arrived : List (Arrival V ℕ O R T)) → a.trustee ≡ t → come_at t (a ∷ arrived) ≡ (a.after, a.answer) ∷ come_at t arrived
-  come_here t a arrived e = ap (λ b. cond b ((a.after, a.answer) ∷ come_at t arrived) (come_at t arrived)) (eq-eqb a.trustee t e)
+  pub come_here : (t : ℕ) (a : Arrival V ℕ O R T) (arrived : List (Arrival V ℕ O R T)) → a.trustee ≡ t → come_at t (a ∷ arrived) ≡ (a.after, answer_in a.came) ∷ come_at t arrived
+  come_here t a arrived e = ap (λ b. cond b ((a.after, answer_in a.came) ∷ come_at t arrived) (come_at t arrived)) (eq-eqb a.trustee t e)
 
   pub come_other : (t : ℕ) (a : Arrival V ℕ O R T) (arrived : List (Arrival V ℕ O R T)) → a.trustee ≢ t → come_at t (a ∷ arrived) ≡ come_at t arrived
-  come_other t a arrived ne = ap (λ b. cond b ((a.after, a.answer) ∷ come_at t arrived) (come_at t arrived)) (ne_eqb a.trustee t ne)
+  come_other t a arrived ne = ap (λ b. cond b ((a.after, answer_in a.came) ∷ come_at t arrived) (come_at t arrived)) (ne_eqb a.trustee t ne)
 
   got_reply : (t c : ℕ) (name : Name) (answer : Answer V O R T) (r : R) (got : Got V O R T) (old new : Holds) → answer ≡ Replied r → IsGot t c name answer got old new
       → (got ≡ ReplyOf r) × (new ≡ old)
   got_reply t c name answer r got old new e is = subst (λ a. IsGot t c name a got old new) e is
+
+  handed_reply : (t c : ℕ) (name : Name) (came : Came V O R T) (r : R) (got : Got V O R T) (old new : Holds) → answer_in came ≡ Replied r
+      → IsHanded t c name came got old new → (got ≡ ReplyOf r) × (new ≡ old)
+  handed_reply t c name (Answered answer) r got old new e is = got_reply t c name answer r got old new e is
+  handed_reply t c name (Finished reply) r got old new e is = absurd cc
 
 module _ {V O R T D : Type 0} (view : D → ClientView V O R T) where
   module _ (k : ℕ) (got : Got V O R T) (was : ℕ → ClientView V O R T) (asked : List (Question V O R T)) (replies : List R) (old new : Books V ℕ D O R T)
@@ -40,23 +47,23 @@ module _ {V O R T D : Type 0} (view : D → ClientView V O R T) where
     at : IsAskedAt view h.t (was h.t) asked replies old.arrived.items h.lane
     at = is.lanes h.t h.lane h.of_lane
 
-    pub come_first : come_at h.t old.arrived.items ≡ (k, h.answer) ∷ come_at h.t new.arrived.items
-    come_first = ap (λ xs. come_at h.t xs) h.first ∙ come_here h.t (record { trustee = h.t; name = h.name; after = k; answer = h.answer }) new.arrived.items refl
+    pub come_first : come_at h.t old.arrived.items ≡ (k, answer_in h.came) ∷ come_at h.t new.arrived.items
+    come_first = ap (λ xs. come_at h.t xs) h.first ∙ come_here h.t (record { trustee = h.t; name = h.name; after = k; came = h.came }) new.arrived.items refl
 
-    pub all_come : AllByRecursion IsReply ((k, h.answer) ∷ come_at h.t new.arrived.items)
+    pub all_come : AllByRecursion IsReply ((k, answer_in h.came) ∷ come_at h.t new.arrived.items)
     all_come = subst (λ xs. AllByRecursion IsReply xs) come_first at.come
 
     abbrev pub reply : R
     reply = all_come.0.0
 
-    answer_is : h.answer ≡ Replied reply
+    answer_is : answer_in h.came ≡ Replied reply
     answer_is = all_come.0.1
 
     -- the numbers at the trustee: those that were taken before, this one, and others
     numbers_are : map (λ c. c.0) at.taken ++ k ∷ (map (λ c. c.0) (come_at h.t new.arrived.items) ++ map (λ w. w.after) h.lane.afters.items) ≡ numbers_at h.t 0 asked
     numbers_are =
         sym (append_assoc (map (λ c. c.0) at.taken) (k ∷ map (λ c. c.0) (come_at h.t new.arrived.items)) (map (λ w. w.after) h.lane.afters.items))
-        ∙ ap (λ xs. xs ++ map (λ w. w.after) h.lane.afters.items) (sym (map-append (λ c. c.0) at.taken ((k, h.answer) ∷ come_at h.t new.arrived.items)))
+        ∙ ap (λ xs. xs ++ map (λ w. w.after) h.lane.afters.items) (sym (map-append (λ c. c.0) at.taken ((k, answer_in h.came) ∷ come_at h.t new.arrived.items)))
         ∙ ap (λ xs. map (λ c. c.0) (at.taken ++ xs) ++ map (λ w. w.after) h.lane.afters.items) (sym come_first) ∙ at.numbers
 
     number_at : IsOneOf k (numbers_at h.t 0 asked)
@@ -66,10 +73,10 @@ module _ {V O R T D : Type 0} (view : D → ClientView V O R T) where
     within = let below = number_below h.t 0 asked k (number_is h.t 0 asked k number_at) in let few = is.few in omega (arith, below, few)
 
     pub reply_is : got ≡ ReplyOf reply
-    reply_is = (got_reply h.t old.number h.name h.answer reply got old.held new.held answer_is h.is_got).0
+    reply_is = (handed_reply h.t old.number h.name h.came reply got old.held new.held answer_is h.is_got).0
 
     pub held_is : new.held ≡ old.held
-    held_is = (got_reply h.t old.number h.name h.answer reply got old.held new.held answer_is h.is_got).1
+    held_is = (handed_reply h.t old.number h.name h.came reply got old.held new.held answer_is h.is_got).1
 
     -- what was taken before has other numbers
     others_before : AllByRecursion (λ c. c.0 ≢ k) at.taken
@@ -77,22 +84,23 @@ module _ {V O R T D : Type 0} (view : D → ClientView V O R T) where
         all_weaker (λ c. c.0 < k) (λ c. c.0 ≢ k) at.taken (λ c lt same. omega (arith, lt, same))
         (all_under (λ j. j < k) (λ c. c.0) at.taken (numbers_rise h.t 0 asked (map (λ c. c.0) at.taken) _ k (sym numbers_are)))
 
-    noted_now : IsNoted (slice_set replies k reply) (k, h.answer)
+    noted_now : IsNoted (slice_set replies k reply) (k, answer_in h.came)
     noted_now = (reply, answer_is, set_there replies k reply within)
 
     here : IsAskedAt view h.t (was h.t) asked (slice_set replies k reply) new.arrived.items h.becomes
     here =
-        let joined : (at.taken ++ (k, h.answer) ∷ []) ++ come_at h.t new.arrived.items ≡ at.taken ++ come_at h.t old.arrived.items =
-        append_assoc at.taken ((k, h.answer) ∷ []) (come_at h.t new.arrived.items) ∙ ap (λ xs. at.taken ++ xs) (sym come_first) in record {
+        let joined : (at.taken ++ (k, answer_in h.came) ∷ []) ++ come_at h.t new.arrived.items ≡ at.taken ++ come_at h.t old.arrived.items =
+        append_assoc at.taken ((k, answer_in h.came) ∷ []) (come_at h.t new.arrived.items) ∙ ap (λ xs. at.taken ++ xs) (sym come_first) in record {
           side = subst (λ s. IsSideAsked (was h.t) (view s)) (sym h.counts.side) at.side;
           is_open = h.counts.closing ∙ at.is_open;
+          unlaunched = ap (λ l. l.items) h.counts.launched ∙ at.unlaunched;
           sent = ap (λ s. (view s).sent ++ h.becomes.waits.items) h.counts.side ∙ ap (λ w. (view h.lane.side).sent ++ w.items) h.counts.waits ∙ at.sent;
           waits_apply = subst (λ w. AllByRecursion IsApply w.items) (sym h.counts.waits) at.waits_apply;
-          taken = at.taken ++ (k, h.answer) ∷ [];
+          taken = at.taken ++ (k, answer_in h.came) ∷ [];
           numbers = ap (λ xs. map (λ c. c.0) xs ++ map (λ w. w.after) h.becomes.afters.items) joined
               ∙ ap (λ ws. map (λ c. c.0) (at.taken ++ come_at h.t old.arrived.items) ++ map (λ w. w.after) ws.items) h.counts.afters ∙ at.numbers;
           got = ap (λ s. answers_in (view s).got) h.counts.side ∙ at.got ∙ ap (λ xs. answers_in (was h.t).got ++ map (λ c. c.1) xs) (sym joined);
-          noted = all-append (IsNoted (slice_set replies k reply)) at.taken ((k, h.answer) ∷ []) (noted_other replies k reply at.taken others_before at.noted) (noted_now, tt);
+          noted = all-append (IsNoted (slice_set replies k reply)) at.taken ((k, answer_in h.came) ∷ []) (noted_other replies k reply at.taken others_before at.noted) (noted_now, tt);
           come = all_come.1;
         }
 
@@ -101,7 +109,7 @@ module _ {V O R T D : Type 0} (view : D → ClientView V O R T) where
     elsewhere u lane ne there =
         let a = is.lanes u lane there in
         let same : come_at u old.arrived.items ≡ come_at u new.arrived.items =
-        ap (λ xs. come_at u xs) h.first ∙ come_other u (record { trustee = h.t; name = h.name; after = k; answer = h.answer }) new.arrived.items (λ e. ne (sym e)) in
+        ap (λ xs. come_at u xs) h.first ∙ come_other u (record { trustee = h.t; name = h.name; after = k; came = h.came }) new.arrived.items (λ e. ne (sym e)) in
         let theirs = each_in_front (map (λ c. c.0) a.taken) (map (λ c. c.0) (come_at u old.arrived.items)) (numbers_at u 0 asked)
         (λ j one. subst (λ xs. IsOneOf j xs) (ap (λ xs. xs ++ map (λ w. w.after) lane.afters.items) (sym (map-append (λ c. c.0) a.taken (come_at u old.arrived.items))) ∙ a.numbers)
         (one_in_front j (map (λ c. c.0) a.taken ++ map (λ c. c.0) (come_at u old.arrived.items)) (map (λ w. w.after) lane.afters.items) one)) in
@@ -111,6 +119,7 @@ module _ {V O R T D : Type 0} (view : D → ClientView V O R T) where
         record {
           side = a.side;
           is_open = a.is_open;
+          unlaunched = a.unlaunched;
           sent = a.sent;
           waits_apply = a.waits_apply;
           taken = a.taken;

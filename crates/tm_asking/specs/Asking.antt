@@ -6,7 +6,7 @@ use Rattle.std.specs.declared.option.Option.TheVariants.{None, Some}
 use Rattle.tm_batch.specs.declared.message.Request.{Request}
 use Rattle.tm_batch.specs.declared.message.Request.TheVariants.{Apply}
 use Rattle.tm_batch.specs.declared.message.Answer.{Answer}
-use Rattle.tm_batch.specs.declared.message.Answer.TheVariants.{Replied}
+use Rattle.tm_batch.specs.declared.message.Answer.TheVariants.{Replied, ByeDone}
 use Rattle.tm_model.specs.Lists.{IsPrefix}
 use Rattle.tm_model.specs.Ran.{ran, answered}
 use Rattle.tm_model.specs.Holds.{answers_in}
@@ -14,6 +14,8 @@ use Rattle.tm_pair.specs.Views.{ClientView, new_client}
 use Rattle.tm_client.specs.declared.lane.Lane.{Lane}
 use Rattle.tm_client.specs.declared.trust.Trust.{Trust}
 use Rattle.tm_client.specs.declared.answers.Arrival.{Arrival}
+use Rattle.tm_client.specs.declared.answers.Came.{Came}
+use Rattle.tm_client.specs.declared.answers.Came.TheVariants.{Answered, Finished}
 use Rattle.tm_client.specs.declared.books.Books.{Books}
 use Rattle.tm_client.specs.Lanes.{out_requests}
 use Rattle.tm_client.specs.Asking.{IsOpen, IsHeldBy}
@@ -34,10 +36,15 @@ module _ {V O R T : Type 0} where
   IsApply (Apply n op) = Unit {0}
   IsApply _ = ⊥
 
+  -- the answer that came; where a completion came, one that is no reply
+  abbrev pub answer_in : Came V O R T → Answer V O R T
+  answer_in (Answered a) = a
+  answer_in (Finished reply) = ByeDone
+
   -- what came of trustee t and was not taken: the number of each question, which is its continuation, and the answer
   abbrev pub come_at : ℕ → List (Arrival V ℕ O R T) → List (ℕ × Answer V O R T)
   come_at t [] = []
-  come_at t (a ∷ arrived) = cond (a.trustee == t) ((a.after, a.answer) ∷ come_at t arrived) (come_at t arrived)
+  come_at t (a ∷ arrived) = cond (a.trustee == t) ((a.after, answer_in a.came) ∷ come_at t arrived) (come_at t arrived)
 
   -- what came is the reply of an operation
   abbrev pub IsReply : ℕ × Answer V O R T → Type 0
@@ -67,6 +74,8 @@ module _ {V O R T D : Type 0} (view : D → ClientView V O R T) where
       (lane : Lane V ℕ D O R T) : Type 0 where
     pub side : IsSideAsked was (view lane.side)
     pub is_open : lane.closing ≡ false
+    -- no launch of it lacks its completion
+    pub unlaunched : lane.launched.items ≡ []
     -- the questions were sent, or wait to be
     pub sent : (view lane.side).sent ++ lane.waits.items ≡ was.sent ++ requests_at t asked
     pub waits_apply : AllByRecursion IsApply lane.waits.items
