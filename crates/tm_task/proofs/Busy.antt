@@ -1,5 +1,5 @@
 -- The trustees at which a request counts.
-use Rattle.std.proofs.Common.{◌≡◌, ◌≢◌, ℕ, zero, suc, ◌+◌, ◌≤◌, ◌<◌, inl, inr, Bool, false, cond, List, [], ◌∷◌, ◌++◌, length, filter, map, refl, sym, ◌∙◌, ap, arith, eq-eqb, ne_eqb}
+use Rattle.std.proofs.Common.{◌≡◌, ◌≢◌, ℕ, zero, suc, ◌+◌, ◌≤◌, ◌<◌, ◌⊎◌, inl, inr, Bool, true, false, cond, List, [], ◌∷◌, ◌++◌, length, filter, map, refl, sym, ◌∙◌, ap, arith, eq-eqb, ne_eqb}
 use Rattle.std.specs.Prelude.{◌==◌, slice_get, slice_set, IsSomeAnd}
 use Rattle.std.specs.declared.option.Option.{Option}
 use Rattle.std.specs.declared.option.Option.TheVariants.{None, Some}
@@ -9,12 +9,14 @@ use Rattle.std.proofs.lemmas.List.Sums.{length-filter}
 use Rattle.std.proofs.lemmas.Option.{slice_get_within}
 use Rattle.tm_seq.specs.Kind.{Kind}
 use Rattle.tm_model.specs.State.{State}
+use Rattle.tm_model.specs.Holds.{has_bye}
 use Rattle.tm_pair.specs.Theory.{Theory}
 use Rattle.tm_pair.specs.Views.{ClientView}
 use Rattle.tm_client.specs.declared.answers.Turn.{Turn}
 use Rattle.tm_client.specs.declared.answers.Turn.TheVariants.{Sent, Pending, Got, Idle}
 use Rattle.tm_client.specs.declared.books.Books.{Books}
 use Rattle.tm_client.specs.declared.lane.Lane.{Lane}
+use Rattle.tm_client.specs.declared.lane.Unfinished.{Unfinished}
 use Rattle.tm_client.specs.declared.lane.Waiting.{Waiting}
 use Rattle.tm_client.specs.declared.trust.Trust.{Trust}
 use Rattle.tm_client.specs.Clients.{IsClient, come_of}
@@ -25,14 +27,26 @@ use Rattle.tm_client.proofs.Listed.{at_own}
 use Rattle.tm_task.specs.declared.stage.Stage.{Stage}
 use Rattle.tm_task.specs.declared.stage.Stage.TheVariants.{Fresh, Asks, Waits, Ended}
 use Rattle.tm_task.specs.Going.{IsInRange, AreInRange, has_gone}
-use Rattle.tm_task.specs.Ours.{of_waiting, of_arrived, waiting_at, is_of, awaits, AreTheirs}
+use Rattle.tm_task.specs.Ours.{of_waiting, of_launched, of_arrived, waiting_at, launched_at, is_of, awaits, AreTheirs}
 use Rattle.tm_task.specs.Progressing.{IsSettled, count_of, counting_at, busy_at, busy_below}
 use Rattle.tm_task.specs.Stages.{is_ended, ended_in}
 use Rattle.tm_task.proofs.Places.{same_at_set, empty_parts}
 
+some_launched : (n id : ℕ) (ls : List (Unfinished ℕ)) → 1 ≤ of_launched n id ls → 1 ≤ length ls
+some_launched n id [] some = absurd (omega (arith, some))
+some_launched n id (l ∷ ls) some = omega arith
+
 some_waits : (n id : ℕ) (ws : List (Waiting ℕ)) → 1 ≤ of_waiting n id ws → 1 ≤ length ws
 some_waits n id [] some = absurd (omega (arith, some))
 some_waits n id (w ∷ ws) some = omega arith
+
+truth : (b : Bool) → (b ≡ true) ⊎ (b ≡ false)
+truth true = inl refl
+truth false = inr refl
+
+none_or_some : {X : Type 0} (xs : List X) → (xs ≡ []) ⊎ (xs ≢ [])
+none_or_some [] = inl refl
+none_or_some (x ∷ xs) = inr (λ e. absurd cc)
 
 module _ {V O R K D : Type 0} where
   pub same_busy_at : (old new : Books V ℕ D O R K) → ((t : ℕ) → counting_at new t ≡ counting_at old t) → (t : ℕ) → busy_at new t ≡ busy_at old t
@@ -81,14 +95,23 @@ module _ {V O R K D : Type 0} where
   idle_at books t count h zero_is =
       let none : counting_at books t ≡ 0 = counting_is books t count h ∙ zero_is in ap (λ n. cond (n == 0) [] (t ∷ [])) none
 
-  waiting_lane : (n id : ℕ) (o : Option (Lane V ℕ D O R K)) → 1 ≤ of_waiting n id (waiting_at o)
-      → (lane : Lane V ℕ D O R K) × (o ≡ Some lane) × (1 ≤ length lane.afters.items)
+  waiting_lane : (n id : ℕ) (o : Option (Lane V ℕ D O R K)) → 1 ≤ of_waiting n id (waiting_at o) + of_launched n id (launched_at o)
+      → (lane : Lane V ℕ D O R K) × (o ≡ Some lane) × (1 ≤ length lane.afters.items + length lane.launched.items)
   waiting_lane n id None some = absurd (omega (arith, some))
-  waiting_lane n id (Some lane) some = (lane, refl, some_waits n id lane.afters.items some)
+  waiting_lane n id (Some lane) some = (
+    lane,
+    refl,
+    elim (cases_eq (of_waiting n id lane.afters.items) 0) [
+      | inl none ↦ let many = some_launched n id lane.launched.items (omega (arith, some, none)) in omega (arith, many)
+      | inr ne ↦ let many = some_waits n id lane.afters.items (omega (arith, ne)) in omega (arith, many)
+    ],
+  )
 
   module _ (view : D → ClientView V O R K) (openings : ℕ → State V O R K) (books : Books V ℕ D O R K) (is : IsClient view openings books) where
     -- where a continuation waits its request counts
-    waiting_counts : (n t id : ℕ) → 1 ≤ of_waiting n id (waiting_at (slice_get books.lanes.items t)) → 1 ≤ counting_at books t
+    waiting_counts : (n t id : ℕ)
+        → 1 ≤ of_waiting n id (waiting_at (slice_get books.lanes.items t)) + of_launched n id (launched_at (slice_get books.lanes.items t))
+        → 1 ≤ counting_at books t
     waiting_counts n t id some =
         let (lane, e, many) = waiting_lane n id (slice_get books.lanes.items t) some in
         let one = is.lanes t lane e in
@@ -99,17 +122,28 @@ module _ {V O R K D : Type 0} where
         let counts = one.counting in
         omega (arith, many, names, afters, asks, here, counts)
 
-    -- where nothing is out or waits, and nothing came, nothing counts
+    -- where nothing is out or waits, no launch lacks its completion, and nothing came, nothing counts
     nothing_counts : (t : ℕ) (lane : Lane V ℕ D O R K) → slice_get books.lanes.items t ≡ Some lane → (view lane.side).out ≡ None → lane.waits.items ≡ []
-        → books.arrived.items ≡ [] → counting_at books t ≡ 0
-    nothing_counts t lane e out waits arrived =
+        → lane.launched.items ≡ [] → books.arrived.items ≡ [] → counting_at books t ≡ 0
+    nothing_counts t lane e out waits launched arrived =
         let one = is.lanes t lane e in
         let none : unanswered view lane ≡ [] = ap (λ o. asks_in (out_requests o) ++ lane.waits.items) out ∙ waits in
         let asks : length (unanswered view lane) ≡ 0 = ap length none in
+        let launches = ap length launched in
         let came : come_of t books.arrived.items ≡ 0 = ap (come_of t) arrived in
         let here : counting_at books t ≡ lane.counting = ap count_of e in
         let counts = one.counting in
-        omega (arith, asks, came, here, counts)
+        omega (arith, asks, launches, came, here, counts)
+
+    -- where a request counts, no Bye was sent
+    no_bye : (t : ℕ) (lane : Lane V ℕ D O R K) → slice_get books.lanes.items t ≡ Some lane → 1 ≤ counting_at books t → has_bye (view lane.side).sent ≡ false
+    no_bye t lane e some =
+        let one = is.lanes t lane e in
+        let here : counting_at books t ≡ lane.counting = ap count_of e in
+        elim (truth (has_bye (view lane.side).sent)) [
+          | inl bye ↦ let none = (one.last (one.said ∙ bye)).1 in absurd (omega (arith, some, here, none))
+          | inr none ↦ none
+        ]
 
 module _ {V O R K D Table Owner : Type 0} (theory : Theory V O R K Table D Owner) (kind : Kind V O R K) where
   counting_set : (t0 : ℕ) (lane becomes : Lane V ℕ D O R K) (old new : Books V ℕ D O R K) → slice_get old.lanes.items t0 ≡ Some lane
@@ -139,8 +173,19 @@ module _ {V O R K D Table Owner : Type 0} (theory : Theory V O R K Table D Owner
       let looked = h.tells in (refl, ap (λ (b : Books V ℕ D O R K). b.arrived.items) looked.rest ∙ empty)
   turned_pending openings t0 Idle was now old new is h none empty some =
       let nothing = h.tells in
-      let zero = nothing_counts theory.client_view openings old is t0 h.lane h.turns.of_lane nothing.free nothing.waits empty in
-      absurd (omega (arith, zero, some))
+      let here : counting_at old t0 ≡ h.lane.counting = ap count_of h.turns.of_lane in
+      elim (none_or_some h.lane.launched.items) [
+        | inl launched ↦
+            let zero = nothing_counts theory.client_view openings old is t0 h.lane h.turns.of_lane nothing.free nothing.waits launched empty in
+            absurd (omega (arith, zero, some))
+        | inr ne ↦
+            absurd (nothing.no_fetch (
+              nothing.waits,
+              λ bye. let zero = bye.3 in absurd (omega (arith, zero, here, some)),
+              no_bye theory.client_view openings old is t0 h.lane h.turns.of_lane some,
+              inr ne,
+            ))
+      ]
 
 module _ {V T U O R K : Type 0} where
   -- where not all have ended there is one that has not

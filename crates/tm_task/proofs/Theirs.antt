@@ -1,11 +1,15 @@
 -- For each task that waits for an answer just one request counts, whatever is done. Callers of a turn may cite `theirs_then`.
 use Rattle.std.proofs.Common.{◌≡◌, ◌≢◌, ℕ, zero, suc, ◌+◌, ◌≤◌, inl, inr, Bool, true, false, cond, List, [], ◌∷◌, ◌++◌, length, refl, sym, ◌∙◌, ap, subst, arith, eq-eqb, ne_eqb}
-use Rattle.std.specs.Prelude.{◌==◌, nat_lt, drop, slice_get, slice_set}
+use Rattle.std.specs.Prelude.{◌==◌, nat_eq, nat_lt, drop, slice_get, slice_set}
+use Rattle.std.specs.List.{IsDistinct}
 use Rattle.std.specs.declared.option.Option.{Option}
 use Rattle.std.specs.declared.option.Option.TheVariants.{None, Some}
 use Rattle.std.proofs.lemmas.Bool.{cases_eq}
+use Rattle.std.proofs.lemmas.Map.Keys.{IsDistinct-head, IsDistinct-tail}
 use Rattle.tm_seq.specs.Kind.{Kind}
 use Rattle.tm_batch.specs.declared.message.Answer.{Answer}
+use Rattle.tm_batch.specs.declared.message.AnswerBatch.{AnswerBatch}
+use Rattle.tm_batch.specs.declared.message.Completion.{Completion}
 use Rattle.tm_batch.specs.declared.message.Name.{Name}
 use Rattle.tm_batch.specs.declared.message.Request.TheVariants.{Apply as ApplyTo}
 use Rattle.tm_pair.specs.Theory.{Theory}
@@ -15,12 +19,16 @@ use Rattle.tm_client.specs.declared.answers.Turn.{Turn}
 use Rattle.tm_client.specs.declared.answers.Turn.TheVariants.{Sent, Pending, Got as GotSome, Idle}
 use Rattle.tm_client.specs.declared.books.Books.{Books}
 use Rattle.tm_client.specs.declared.lane.Lane.{Lane}
+use Rattle.tm_client.specs.declared.lane.Unfinished.{Unfinished}
 use Rattle.tm_client.specs.declared.lane.Waiting.{Waiting}
 use Rattle.tm_client.specs.declared.trust.Trust.{Trust}
 use Rattle.tm_client.specs.Asking.{HasAsked}
 use Rattle.tm_client.specs.Listing.{is_at}
 use Rattle.tm_client.specs.Taking.{HasTaken}
-use Rattle.tm_client.specs.Turns.{HasTurned, arrivals_of}
+use Rattle.tm_client.specs.Launches.{ended_tickets, tickets_of, launch_of, other_launches, launches_left, arrival_by, launch_by, arrivals_of, launches_of, finish_of, finished_by, finished_of, with_told}
+use Rattle.tm_client.specs.Turns.{HasTurned}
+use Rattle.tm_client.proofs.Ended.{find_own, find_other, drop_own, keep_other, all_other, others_differ, others_distinct, left_more, left_none, rest_finish}
+use Rattle.tm_client.proofs.Moving.{told_or_plain, arrival_plain, launch_plain}
 use Rattle.tm_client.proofs.Listed.{at_own, at_other}
 use Rattle.tm_task.specs.declared.deed.Deed.{Deed}
 use Rattle.tm_task.specs.declared.deed.Deed.TheVariants.{Added, Started, Asked, Resumed, Turned}
@@ -28,7 +36,7 @@ use Rattle.tm_task.specs.declared.stage.Stage.{Stage}
 use Rattle.tm_task.specs.declared.stage.Stage.TheVariants.{Fresh, Asks, Waits, Ended}
 use Rattle.tm_task.specs.declared.task.Move.{Move}
 use Rattle.tm_task.specs.declared.task.Move.TheVariants.{Apply, Done}
-use Rattle.tm_task.specs.Ours.{of_waiting, of_arrived, waiting_at, counting_for, is_of, awaits, AreTheirs}
+use Rattle.tm_task.specs.Ours.{of_waiting, of_launched, of_arrived, waiting_at, launched_at, counting_for, is_of, awaits, AreTheirs}
 use Rattle.tm_task.specs.Rules.{Rules}
 use Rattle.tm_task.specs.Runs.{World, Does, Runs}
 use Rattle.tm_task.specs.Stages.{stage_of, IsStarted, IsAsked}
@@ -47,40 +55,116 @@ waiting_append : (n id : ℕ) (xs ys : List (Waiting ℕ)) → of_waiting n id (
 waiting_append n id [] ys = omega arith
 waiting_append n id (x ∷ xs) ys = let more = waiting_append n id xs ys in omega (arith, more)
 
+launched_append : (n id : ℕ) (xs ys : List (Unfinished ℕ)) → of_launched n id (xs ++ ys) ≡ of_launched n id xs + of_launched n id ys
+launched_append n id [] ys = omega arith
+launched_append n id (x ∷ xs) ys = let more = launched_append n id xs ys in omega (arith, more)
+
 module _ {V O R K : Type 0} where
   arrived_append : (n t id : ℕ) (xs ys : List (Arrival V ℕ O R K)) → of_arrived n t id (xs ++ ys) ≡ of_arrived n t id xs + of_arrived n t id ys
   arrived_append n t id [] ys = omega arith
   arrived_append n t id (x ∷ xs) ys = let more = arrived_append n t id xs ys in omega (arith, more)
 
-  -- what arrives of a trustee is what waited there
+  -- what arrives of a trustee, or begins there, is what waited
+  came_one : (n t id : ℕ) (w : Waiting ℕ) (a : Answer V O R K)
+      → of_launched n id (launch_by w a) + of_arrived n t id (arrival_by t w a) ≡ cond (w.after == n) (cond (w.name.id == id) 1 0) 0
+  came_one n t id w a = elim (told_or_plain a) [
+    | inl (ticket, e) ↦ rw e (omega arith)
+    | inr plain ↦
+        let one : one_for n t id w.after t w.name.id ≡ cond (w.after == n) (cond (w.name.id == id) 1 0) 0 =
+        ap (λ k. cond (w.after == n) k 0) (at_own t id w.name.id) in
+        rw (arrival_plain t w a plain, launch_plain w a plain) (omega (arith, one))
+  ]
+
   came_here : (n t id : ℕ) (ws : List (Waiting ℕ)) (answers : List (Answer V O R K))
-      → of_waiting n id (drop (length answers) ws) + of_arrived n t id (arrivals_of t ws answers) ≡ of_waiting n id ws
+      → of_waiting n id (drop (length answers) ws) + of_launched n id (launches_of ws answers) + of_arrived n t id (arrivals_of t ws answers)
+      ≡ of_waiting n id ws
   came_here n t id [] [] = refl
   came_here n t id [] (a ∷ answers) = refl
   came_here n t id (w ∷ ws) [] = omega arith
   came_here n t id (w ∷ ws) (a ∷ answers) =
       let more = came_here n t id ws answers in
-      let one : one_for n t id w.after t w.name.id ≡ cond (w.after == n) (cond (w.name.id == id) 1 0) 0 =
-      ap (λ k. cond (w.after == n) k 0) (at_own t id w.name.id) in
-      omega (arith, more, one)
+      let one = came_one n t id w a in
+      let launched = launched_append n id (launch_by w a) (launches_of ws answers) in
+      let arrived = arrived_append n t id (arrival_by t w a) (arrivals_of t ws answers) in
+      omega (arith, more, one, launched, arrived)
+
+  came_else : (n u t id : ℕ) (w : Waiting ℕ) (a : Answer V O R K) → u ≢ t → of_arrived n u id (arrival_by t w a) ≡ 0
+  came_else n u t id w a ne = elim (told_or_plain a) [
+    | inl (ticket, e) ↦ rw e refl
+    | inr plain ↦
+        let one = cond_none (w.after == n) (is_at u id t w.name.id) (at_other u t id w.name.id ne) in
+        rw (arrival_plain t w a plain) (omega (arith, one))
+  ]
 
   came_elsewhere : (n u t id : ℕ) (ws : List (Waiting ℕ)) (answers : List (Answer V O R K)) → u ≢ t → of_arrived n u id (arrivals_of t ws answers) ≡ 0
   came_elsewhere n u t id [] answers ne = refl
   came_elsewhere n u t id (w ∷ ws) [] ne = refl
   came_elsewhere n u t id (w ∷ ws) (a ∷ answers) ne =
       let more = came_elsewhere n u t id ws answers ne in
-      let one = cond_none (w.after == n) (is_at u id t w.name.id) (at_other u t id w.name.id ne) in
-      omega (arith, more, one)
+      let one = came_else n u t id w a ne in
+      let arrived = arrived_append n u id (arrival_by t w a) (arrivals_of t ws answers) in
+      omega (arith, more, one, arrived)
+
+  -- a launch whose completion comes arrives
+  out_one : (n t id : ℕ) (x : Completion V O R K) (ls : List (Unfinished ℕ)) → IsDistinct nat_eq (tickets_of ls)
+      → of_launched n id (other_launches x.ticket ls) + of_arrived n t id (finish_of {V = V} {O = O} {T = K} t x.reply (launch_of x.ticket ls)) ≡ of_launched n id ls
+  out_one n t id x [] once = refl
+  out_one n t id x (l ∷ ls) once = elim (cases_eq l.ticket x.ticket) [
+    | inl own ↦
+        let rest = ap (of_launched n id) (drop_own x.ticket l ls own ∙ all_other x.ticket ls (others_differ x.ticket l ls once own)) in
+        let found = ap (λ o. of_arrived n t id (finish_of {V = V} {O = O} {T = K} t x.reply o)) (find_own x.ticket l ls own) in
+        let one : one_for n t id l.after t l.name.id ≡ cond (l.after == n) (cond (l.name.id == id) 1 0) 0 =
+        ap (λ k. cond (l.after == n) k 0) (at_own t id l.name.id) in
+        omega (arith, rest, found, one)
+    | inr other ↦
+        let rest = ap (of_launched n id) (keep_other x.ticket l ls other) in
+        let found = ap (λ o. of_arrived n t id (finish_of {V = V} {O = O} {T = K} t x.reply o)) (find_other x.ticket l ls other) in
+        let more = out_one n t id x ls (IsDistinct-tail nat_eq l.ticket (tickets_of ls) once) in
+        omega (arith, rest, found, more)
+  ]
+
+  ended_here : (n t id : ℕ) (ls : List (Unfinished ℕ)) (xs : List (Completion V O R K)) → IsDistinct nat_eq (tickets_of ls)
+      → IsDistinct nat_eq (ended_tickets xs)
+      → of_launched n id (launches_left (ended_tickets xs) ls) + of_arrived n t id (finished_of t ls xs) ≡ of_launched n id ls
+  ended_here n t id ls [] once ended = let none = ap (of_launched n id) (left_none ls) in omega (arith, none)
+  ended_here n t id ls (x ∷ xs) once ended =
+      let more =
+      ended_here n t id (other_launches x.ticket ls) xs (others_distinct x.ticket ls once) (IsDistinct-tail nat_eq x.ticket (ended_tickets xs) ended) in
+      let rest = ap (of_arrived n t id) (rest_finish t x.ticket ls xs (IsDistinct-head nat_eq x.ticket (ended_tickets xs) ended)) in
+      let left = ap (of_launched n id) (left_more x.ticket (ended_tickets xs) ls) in
+      let one = out_one n t id x ls once in
+      let joined = arrived_append n t id (finished_by t ls x) (finished_of t ls xs) in
+      omega (arith, more, rest, left, one, joined)
+
+  ended_one : (n u t id : ℕ) (x : Completion V O R K) (o : Option (Unfinished ℕ)) → u ≢ t → of_arrived n u id (finish_of {V = V} {O = O} {T = K} t x.reply o) ≡ 0
+  ended_one n u t id x None ne = refl
+  ended_one n u t id x (Some l) ne =
+      let one = cond_none (l.after == n) (is_at u id t l.name.id) (at_other u t id l.name.id ne) in omega (arith, one)
+
+  ended_elsewhere : (n u t id : ℕ) (ls : List (Unfinished ℕ)) (xs : List (Completion V O R K)) → u ≢ t → of_arrived n u id (finished_of t ls xs) ≡ 0
+  ended_elsewhere n u t id ls [] ne = refl
+  ended_elsewhere n u t id ls (x ∷ xs) ne =
+      let one = ended_one n u t id x (launch_of x.ticket ls) ne in
+      let more = ended_elsewhere n u t id ls xs ne in
+      let joined = arrived_append n u id (finished_by t ls x) (finished_of t ls xs) in
+      omega (arith, one, more, joined)
 
 module _ {V O R K D : Type 0} where
-  -- how many wait at trustee t
+  -- how many wait at trustee t, for an answer or a completion
   abbrev waits_for : ℕ → ℕ → Option (Lane V ℕ D O R K) → ℕ
-  waits_for n id lane = of_waiting n id (waiting_at lane)
+  waits_for n id lane = of_waiting n id (waiting_at lane) + of_launched n id (launched_at lane)
+
+  same_waits : (n id : ℕ) (lane becomes : Lane V ℕ D O R K) → becomes.afters ≡ lane.afters → becomes.launched ≡ lane.launched
+      → waits_for n id (Some becomes) ≡ waits_for n id (Some lane)
+  same_waits n id lane becomes afters launched =
+      let waits = ap (λ b. of_waiting n id b.items) afters in
+      let launches = ap (λ b. of_launched n id b.items) launched in
+      omega (arith, waits, launches)
 
   -- a lane whose continuations changed, at its own trustee
   lane_here : (n id : ℕ) (lanes : List (Lane V ℕ D O R K)) (t : ℕ) (lane becomes : Lane V ℕ D O R K) → slice_get lanes t ≡ Some lane
-      → (waits_for n id (slice_get (slice_set lanes t becomes) t) ≡ of_waiting n id becomes.afters.items)
-      × (waits_for n id (slice_get lanes t) ≡ of_waiting n id lane.afters.items)
+      → (waits_for n id (slice_get (slice_set lanes t becomes) t) ≡ of_waiting n id becomes.afters.items + of_launched n id becomes.launched.items)
+      × (waits_for n id (slice_get lanes t) ≡ of_waiting n id lane.afters.items + of_launched n id lane.launched.items)
   lane_here n id lanes t lane becomes e = (ap (λ o. waits_for n id o) (set_here lanes t lane becomes e), ap (λ o. waits_for n id o) e)
 
   lane_elsewhere : (n id : ℕ) (lanes : List (Lane V ℕ D O R K)) (t u : ℕ) (becomes : Lane V ℕ D O R K) → u ≢ t
@@ -101,7 +185,8 @@ module _ {V O R K D : Type 0} where
       ap (λ k. cond (n0 == n) k 0) (at_own trustee id name.id) in
       let arrived : of_arrived n trustee id new.arrived.items ≡ of_arrived n trustee id old.arrived.items =
       ap (λ a. of_arrived n trustee id a.items) h.rest.arrived in
-      omega (arith, now, was, moved, grew, one, arrived)
+      let still = ap (λ b. of_launched n id b.items) h.accepts.launched in
+      omega (arith, now, was, moved, grew, one, arrived, still)
 
   asked_elsewhere : (trustee : ℕ) (name : Name) (op : O) (n0 : ℕ) (old new : Books V ℕ D O R K) → HasAsked trustee (ApplyTo name op) n0 0 old new
       → (n t id : ℕ) → t ≢ trustee → counting_for n t id new ≡ counting_for n t id old + one_for n t id n0 trustee name.id
@@ -126,7 +211,7 @@ module _ {V O R K D : Type 0} where
   taken_counts : (n0 : ℕ) (got : Got V O R K) (old new : Books V ℕ D O R K) (h : HasTaken n0 got old new) (n t id : ℕ)
       → counting_for n t id old ≡ counting_for n t id new + one_for n t id n0 h.t h.name.id
   taken_counts n0 got old new h n t id =
-      let still = same_at_set (waits_for n id) old.lanes.items h.t t h.lane h.becomes h.of_lane (ap (λ b. of_waiting n id b.items) h.counts.afters) in
+      let still = same_at_set (waits_for n id) old.lanes.items h.t t h.lane h.becomes h.of_lane (same_waits n id h.lane h.becomes h.counts.afters h.counts.launched) in
       let moved : waits_for n id (slice_get new.lanes.items t) ≡ waits_for n id (slice_get (slice_set old.lanes.items h.t h.becomes) t) =
       ap (λ (l : List (Lane V ℕ D O R K)). waits_for n id (slice_get l t)) h.lanes in
       let arrived : of_arrived n t id old.arrived.items ≡ one_for n t id n0 h.t h.name.id + of_arrived n t id new.arrived.items =
@@ -135,61 +220,68 @@ module _ {V O R K D : Type 0} where
 
   -- where neither the continuations that wait nor the arrivals changed, as many count
   still_counts : (t0 : ℕ) (lane becomes : Lane V ℕ D O R K) (old new : Books V ℕ D O R K) → slice_get old.lanes.items t0 ≡ Some lane
-      → new.lanes.items ≡ slice_set old.lanes.items t0 becomes → becomes.afters ≡ lane.afters → new.arrived ≡ old.arrived
+      → new.lanes.items ≡ slice_set old.lanes.items t0 becomes → becomes.afters ≡ lane.afters → becomes.launched ≡ lane.launched → new.arrived ≡ old.arrived
       → (n t id : ℕ) → counting_for n t id new ≡ counting_for n t id old
-  still_counts t0 lane becomes old new of_lane lanes afters arrivals n t id =
-      let still = same_at_set (waits_for n id) old.lanes.items t0 t lane becomes of_lane (ap (λ b. of_waiting n id b.items) afters) in
+  still_counts t0 lane becomes old new of_lane lanes afters launched arrivals n t id =
+      let still = same_at_set (waits_for n id) old.lanes.items t0 t lane becomes of_lane (same_waits n id lane becomes afters launched) in
       let moved : waits_for n id (slice_get new.lanes.items t) ≡ waits_for n id (slice_get (slice_set old.lanes.items t0 becomes) t) =
       ap (λ (l : List (Lane V ℕ D O R K)). waits_for n id (slice_get l t)) lanes in
       let arrived : of_arrived n t id new.arrived.items ≡ of_arrived n t id old.arrived.items = ap (λ a. of_arrived n t id a.items) arrivals in
       omega (arith, still, moved, arrived)
 
-  -- answers that come move from what waits to what arrived
-  got_here : (t0 : ℕ) (answers : List (Answer V O R K)) (lane becomes : Lane V ℕ D O R K) (old new : Books V ℕ D O R K)
+  -- answers that come move from what waits to what arrived, or to the launches, and completions from these
+  got_here : (t0 : ℕ) (a : AnswerBatch V O R K) (lane becomes : Lane V ℕ D O R K) (old new : Books V ℕ D O R K)
       → slice_get old.lanes.items t0 ≡ Some lane
-      → new.lanes.items ≡ slice_set old.lanes.items t0 becomes → becomes.afters.items ≡ drop (length answers) lane.afters.items
-      → new.arrived.items ≡ old.arrived.items ++ arrivals_of t0 lane.afters.items answers
+      → new.lanes.items ≡ slice_set old.lanes.items t0 becomes → becomes.afters.items ≡ drop (length a.answers.items) lane.afters.items
+      → becomes.launched.items ≡ launches_left (ended_tickets a.completions.items) (with_told lane a)
+      → new.arrived.items ≡ old.arrived.items ++ (arrivals_of t0 lane.afters.items a.answers.items ++ finished_of t0 (with_told lane a) a.completions.items)
+      → IsDistinct nat_eq (tickets_of (with_told lane a)) → IsDistinct nat_eq (ended_tickets a.completions.items)
       → (n id : ℕ) → counting_for n t0 id new ≡ counting_for n t0 id old
-  got_here t0 answers lane becomes old new of_lane lanes afters arrivals n id =
+  got_here t0 a lane becomes old new of_lane lanes afters launched arrivals once ended n id =
       let (now, was) = lane_here n id old.lanes.items t0 lane becomes of_lane in
       let moved : waits_for n id (slice_get new.lanes.items t0) ≡ waits_for n id (slice_get (slice_set old.lanes.items t0 becomes) t0) =
       ap (λ (l : List (Lane V ℕ D O R K)). waits_for n id (slice_get l t0)) lanes in
-      let left : of_waiting n id becomes.afters.items ≡ of_waiting n id (drop (length answers) lane.afters.items) = ap (of_waiting n id) afters in
-      let came = came_here n t0 id lane.afters.items answers in
-      let arrived : of_arrived n t0 id new.arrived.items
-      ≡ of_arrived n t0 id old.arrived.items + of_arrived n t0 id (arrivals_of t0 lane.afters.items answers) =
-      ap (of_arrived n t0 id) arrivals ∙ arrived_append n t0 id old.arrived.items (arrivals_of t0 lane.afters.items answers) in
-      omega (arith, now, was, moved, left, came, arrived)
+      let left : of_waiting n id becomes.afters.items ≡ of_waiting n id (drop (length a.answers.items) lane.afters.items) = ap (of_waiting n id) afters in
+      let launches = ap (of_launched n id) launched in
+      let told = launched_append n id lane.launched.items (launches_of lane.afters.items a.answers.items) in
+      let came = came_here n t0 id lane.afters.items a.answers.items in
+      let done = ended_here n t0 id (with_told lane a) a.completions.items once ended in
+      let both = arrived_append n t0 id (arrivals_of t0 lane.afters.items a.answers.items) (finished_of t0 (with_told lane a) a.completions.items) in
+      let arrived = ap (of_arrived n t0 id) arrivals
+      ∙ arrived_append n t0 id old.arrived.items (arrivals_of t0 lane.afters.items a.answers.items ++ finished_of t0 (with_told lane a) a.completions.items) in
+      omega (arith, now, was, moved, left, launches, told, came, done, both, arrived)
 
-  got_elsewhere : (t0 : ℕ) (answers : List (Answer V O R K)) (lane becomes : Lane V ℕ D O R K) (old new : Books V ℕ D O R K)
+  got_elsewhere : (t0 : ℕ) (a : AnswerBatch V O R K) (lane becomes : Lane V ℕ D O R K) (old new : Books V ℕ D O R K)
       → new.lanes.items ≡ slice_set old.lanes.items t0 becomes
-      → new.arrived.items ≡ old.arrived.items ++ arrivals_of t0 lane.afters.items answers
+      → new.arrived.items ≡ old.arrived.items ++ (arrivals_of t0 lane.afters.items a.answers.items ++ finished_of t0 (with_told lane a) a.completions.items)
       → (n t id : ℕ) → t ≢ t0 → counting_for n t id new ≡ counting_for n t id old
-  got_elsewhere t0 answers lane becomes old new lanes arrivals n t id ne =
+  got_elsewhere t0 a lane becomes old new lanes arrivals n t id ne =
       let still = lane_elsewhere n id old.lanes.items t0 t becomes ne in
       let moved : waits_for n id (slice_get new.lanes.items t) ≡ waits_for n id (slice_get (slice_set old.lanes.items t0 becomes) t) =
       ap (λ (l : List (Lane V ℕ D O R K)). waits_for n id (slice_get l t)) lanes in
-      let none = came_elsewhere n t t0 id lane.afters.items answers ne in
-      let arrived : of_arrived n t id new.arrived.items
-      ≡ of_arrived n t id old.arrived.items + of_arrived n t id (arrivals_of t0 lane.afters.items answers) =
-      ap (of_arrived n t id) arrivals ∙ arrived_append n t id old.arrived.items (arrivals_of t0 lane.afters.items answers) in
-      omega (arith, still, moved, none, arrived)
+      let none = came_elsewhere n t t0 id lane.afters.items a.answers.items ne in
+      let nothing = ended_elsewhere n t t0 id (with_told lane a) a.completions.items ne in
+      let both = arrived_append n t id (arrivals_of t0 lane.afters.items a.answers.items) (finished_of t0 (with_told lane a) a.completions.items) in
+      let arrived = ap (of_arrived n t id) arrivals
+      ∙ arrived_append n t id old.arrived.items (arrivals_of t0 lane.afters.items a.answers.items ++ finished_of t0 (with_told lane a) a.completions.items) in
+      omega (arith, still, moved, none, nothing, both, arrived)
 
 module _ {V O R K D Table Owner : Type 0} (theory : Theory V O R K Table D Owner) (kind : Kind V O R K) where
   turned_counts : (t0 : ℕ) (turn : Turn) (table becomes : Table) (old new : Books V ℕ D O R K) → HasTurned theory kind t0 turn table becomes old new
       → (n t id : ℕ) → counting_for n t id new ≡ counting_for n t id old
   turned_counts t0 (Sent m) table becomes old new h n t id =
-      let sent = h.tells in still_counts t0 h.lane h.becomes old new h.turns.of_lane h.turns.lanes sent.afters sent.arrived n t id
+      let sent = h.tells in still_counts t0 h.lane h.becomes old new h.turns.of_lane h.turns.lanes sent.afters sent.launched sent.arrived n t id
   turned_counts t0 Pending table becomes old new h n t id =
       let looked = h.tells in
       still_counts t0 h.lane h.becomes old new h.turns.of_lane h.turns.lanes (ap (λ (l : Lane V ℕ D O R K). l.afters) looked.stays)
+      (ap (λ (l : Lane V ℕ D O R K). l.launched) looked.stays)
       (ap (λ (b : Books V ℕ D O R K). b.arrived) looked.rest) n t id
   turned_counts t0 (GotSome m) table becomes old new h n t id =
       let got = h.tells in
       elim (cases_eq t t0) [
         | inl e ↦ subst (λ u. counting_for n u id new ≡ counting_for n u id old) (sym e)
-            (got_here t0 got.answers.answers.items h.lane h.becomes old new h.turns.of_lane h.turns.lanes got.afters got.arrived n id)
-        | inr ne ↦ got_elsewhere t0 got.answers.answers.items h.lane h.becomes old new h.turns.lanes got.arrived n t id ne
+            (got_here t0 got.answers h.lane h.becomes old new h.turns.of_lane h.turns.lanes got.afters got.launched got.arrived got.once got.ended n id)
+        | inr ne ↦ got_elsewhere t0 got.answers h.lane h.becomes old new h.turns.lanes got.arrived n t id ne
       ]
   turned_counts t0 Idle table becomes old new h n t id =
       let nothing = h.tells in ap (λ (b : Books V ℕ D O R K). counting_for n t id b) nothing.kept

@@ -11,6 +11,8 @@ use Rattle.tm_batch.specs.declared.message.Answer.TheVariants.{Entrusted, NotEnt
 use Rattle.tm_batch.specs.declared.limits.TheConstants.{MOST_TRUSTEES}
 use Rattle.tm_model.specs.State.{State}
 use Rattle.tm_pair.specs.Theory.{Theory}
+use Rattle.tm_client.specs.declared.answers.Came.{Came}
+use Rattle.tm_client.specs.declared.answers.Came.TheVariants.{Answered, Finished}
 use Rattle.tm_client.specs.declared.answers.Got.{Got}
 use Rattle.tm_client.specs.declared.answers.Turn.{Turn}
 use Rattle.tm_client.specs.declared.books.Books.{Books}
@@ -20,7 +22,7 @@ use Rattle.tm_client.specs.declared.lane.Lane.{Lane}
 use Rattle.tm_client.specs.declared.trust.Trust.{Trust}
 use Rattle.tm_client.specs.Asking.{IsHeldBy, IsOpen}
 use Rattle.tm_client.specs.Listing.{hold_of, held_at, HasHold, Gains}
-use Rattle.tm_client.specs.Taking.{IsGot}
+use Rattle.tm_client.specs.Taking.{IsGot, IsHanded}
 use Rattle.tm_client.specs.Turns.{HasTurned}
 use Rattle.tm_client.proofs.Elements.{element_at, set_cases}
 use Rattle.tm_task.specs.declared.deed.Deed.{Deed}
@@ -51,7 +53,7 @@ module _ {V O R K : Type 0} where
   got_has t c name (NotEntrusted refusal v) got h old new is has = same_has h old new is.1 has
   got_has t c name (Replied r) got h old new is has = same_has h old new is.1 has
   got_has t c name (Launched ticket) got h old new is has = absurd is
-  got_has t c name (TicketsSpent task) got h old new is has = absurd is
+  got_has t c name (TicketsSpent task) got h old new is has = same_has h old new is.1 has
   got_has t c name Granted got h old new is has = same_has h old new is.1 has
   got_has t c name Gone got h old new is has = same_has h old new is.1 has
   got_has t c name GiftsFull got h old new is has = same_has h old new is.1 has
@@ -59,6 +61,11 @@ module _ {V O R K : Type 0} where
   got_has t c name (Reclaimed v) got h old new is has = same_has h old new is.1 has
   got_has t c name Shared got h old new (trust, is, listed) has = gains_has h (hold_of t name) trust.at old new listed.gains has
   got_has t c name ByeDone got h old new is has = absurd is
+
+  handed_has : (t c : ℕ) (name : Name) (a : Came V O R K) (got : Got V O R K) (h : Hold) (old new : Holds) → IsHanded t c name a got old new
+      → HasHold old h → HasHold new h
+  handed_has t c name (Answered a) got h old new is has = got_has t c name a got h old new is has
+  handed_has t c name (Finished r) got h old new is has = same_has h old new is.1 has
 
 module _ {V O R K D : Type 0} where
   -- the client still holds what it held, and closed no further trustee
@@ -102,7 +109,7 @@ module _ {V T U O R K D Table Owner : Type 0} (theory : Theory V O R K Table D O
       let taken = h.calls.taken in
       record {
         number = taken.number;
-        held = λ x has. got_has taken.t was.books.number taken.name taken.answer got x was.books.held now.books.held taken.is_got has;
+        held = λ x has. handed_has taken.t was.books.number taken.name taken.came got x was.books.held now.books.held taken.is_got has;
         open_ = open_set taken.t taken.lane taken.becomes was.books now.books taken.of_lane taken.lanes taken.counts.closing;
       }
   deed_holds (Turned t turn) was now h =

@@ -10,6 +10,7 @@ use Rattle.tm_pair.specs.Views.{ClientView}
 use Rattle.tm_client.specs.declared.answers.Arrival.{Arrival}
 use Rattle.tm_client.specs.declared.books.Books.{Books}
 use Rattle.tm_client.specs.declared.lane.Lane.{Lane}
+use Rattle.tm_client.specs.declared.lane.Unfinished.{Unfinished}
 use Rattle.tm_client.specs.declared.lane.Waiting.{Waiting}
 use Rattle.tm_client.specs.declared.trust.Trust.{Trust}
 use Rattle.tm_client.specs.Asking.{IsHeldBy, IsOpen}
@@ -23,6 +24,11 @@ abbrev pub of_waiting : ℕ → ℕ → List (Waiting ℕ) → ℕ
 of_waiting n id [] = 0
 of_waiting n id (w ∷ waiting) = cond (w.after == n) (cond (w.name.id == id) 1 0) 0 + of_waiting n id waiting
 
+-- how many of some launches that lack their completion
+abbrev pub of_launched : ℕ → ℕ → List (Unfinished ℕ) → ℕ
+of_launched n id [] = 0
+of_launched n id (l ∷ launched) = cond (l.after == n) (cond (l.name.id == id) 1 0) 0 + of_launched n id launched
+
 module _ {V O R K : Type 0} where
   -- how many of some arrivals are of number n, to a request on the object of that id at trustee t
   abbrev pub of_arrived : ℕ → ℕ → ℕ → List (Arrival V ℕ O R K) → ℕ
@@ -34,9 +40,15 @@ module _ {V O R K D : Type 0} where
   waiting_at None = []
   waiting_at (Some lane) = lane.afters.items
 
+  abbrev pub launched_at : Option (Lane V ℕ D O R K) → List (Unfinished ℕ)
+  launched_at None = []
+  launched_at (Some lane) = lane.launched.items
+
   -- how many requests on the object of that id at trustee t count of a client that have continuation n
   abbrev pub counting_for : ℕ → ℕ → ℕ → Books V ℕ D O R K → ℕ
-  counting_for n t id books = of_waiting n id (waiting_at (slice_get books.lanes.items t)) + of_arrived n t id books.arrived.items
+  counting_for n t id books =
+      of_waiting n id (waiting_at (slice_get books.lanes.items t)) + of_launched n id (launched_at (slice_get books.lanes.items t))
+      + of_arrived n t id books.arrived.items
 
 -- one where the trust is of that object
 abbrev pub is_of : ℕ → ℕ → Option Trust → ℕ
