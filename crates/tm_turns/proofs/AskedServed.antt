@@ -13,61 +13,15 @@ use Rattle.tm_pair.specs.declared.plain.PlainTable.{PlainTable}
 use Rattle.tm_pair.specs.declared.plain.PlainTrustee.{PlainTrustee}
 use Rattle.tm_trustee.specs.Places.{ServesPlace, ServesBelow, found_below}
 use Rattle.tm_trustee.proofs.Serving.{at_most_one, found_told, found_one_more}
-use Rattle.tm_turns.proofs.Asked.{asked, asks, see_asks, answer_asks, see_none}
+use Rattle.tm_turns.proofs.Asked.{see_none}
 use Rattle.tm_turns.proofs.Ones.{one_of}
 
-passed_found : (looks : List Looks) (c : ℕ) (l : Looks) → l.found ≡ false → (slice_index_or (slice_set looks c l) c no_looks).found ≡ false
+pub passed_found : (looks : List Looks) (c : ℕ) (l : Looks) → l.found ≡ false → (slice_index_or (slice_set looks c l) c no_looks).found ≡ false
 passed_found [] c l e = refl
 passed_found (x ∷ looks) zero l e = e
 passed_found (x ∷ looks) (suc c) l e = passed_found looks c l e
 
-asks_one : {V O R T : Type 0} (box other : FullBox V O R T) → box ≡ other → is_asked other ≡ true → one_of (is_asked box) ≡ 1
-asks_one box other e is = ap (λ b. one_of (is_asked b)) e ∙ ap (λ b. one_of b) is
-
 module _ {V O R T : Type 0} (kind : Kind V O R T) (opening : State V O R T) where
-  -- serving a place answers one of them, where it found one
-  place_falls :
-      (c : ℕ) (was now : PlainTable V O R T) (old new : PlainTrustee V O R T) → ServesPlace (plain_theory kind) kind opening c was now old new
-      → asked (core_at now) + cond (looks_at (trustee_at new) c).found 1 0 ≤ asked (core_at was)
-  place_falls c was now old new (inl passes) =
-      let falls = see_asks (core_at was) c in
-      let saw : asked (core_at now) + asks (slot_of (core_at was) c) ≤ asked (core_at was) =
-      subst (λ (core : FullCore V O R T). asked core + asks (slot_of (core_at was) c) ≤ asked (core_at was)) (sym passes.saw.core) falls in
-      let none : (looks_at (trustee_at new) c).found ≡ false =
-      ap (λ (looks : List Looks). (slice_index_or looks c no_looks).found) passes.sees.looks
-      ∙ passed_found (trustee_at old).looks c (looked false (looks_at (trustee_at old) c)) refl in
-      let nought : cond (looks_at (trustee_at new) c).found 1 0 ≡ 0 = ap (λ b. one_of b) none in
-      omega (arith, saw, nought)
-  place_falls c was now old new (inr answers) =
-      let falls = see_asks (core_at was) c in
-      let saw : asked (core_at answers.between) + asks (slot_of (core_at was) c) ≤ asked (core_at was) =
-      subst (λ (core : FullCore V O R T). asked core + asks (slot_of (core_at was) c) ≤ asked (core_at was)) (sym answers.saw.core) falls in
-      let one : asks (slot_of (core_at was) c) ≡ 1 =
-      asks_one (slot_of (core_at was) c).box (Asked answers.batch.requests.items answers.batch.room) answers.saw.may refl in
-      let r = answers.replied in
-      let then = answer_asks (core_at answers.between) c r.resumes r.answers (slot_of (core_at answers.between) c).box in
-      let after : asked (core_at now) ≤ asked (core_at answers.between) =
-      subst (λ (core : FullCore V O R T). asked core ≤ asked (core_at answers.between)) (sym r.did.core) then in
-      let most = at_most_one (looks_at (trustee_at new) c).found in
-      omega (arith, saw, one, after, most)
-
-  -- serving the places below n answers as many as it found
-  pub places_fall :
-      (n : ℕ) (was now : PlainTable V O R T) (old new : PlainTrustee V O R T) → ServesBelow (plain_theory kind) kind opening n was now old new
-      → asked (core_at now) + found_below n (trustee_at new) ≤ asked (core_at was)
-  unfolding ServesBelow found_below
-  places_fall zero was now old new none =
-      let same : asked (core_at now) ≡ asked (core_at was) = ap (λ (x : PlainTable V O R T). asked (core_at x)) none.0 in omega (arith, same)
-  places_fall (suc n) was now old new serves =
-      let (between, mid, below, mine, here) = serves in
-      let rest = places_fall n was between old mid below in
-      let one = place_falls n between now mid new here in
-      let e : n + 1 ≡ suc n = omega arith in
-      let more : found_below (suc n) (trustee_at new) ≡ found_below n (trustee_at mid) + cond (looks_at (trustee_at new) n).found 1 0 =
-      subst (λ k. found_below k (trustee_at new) ≡ found_below n (trustee_at mid) + cond (looks_at (trustee_at new) n).found 1 0) e
-      (found_one_more (plain_theory kind) kind opening n between now mid new here) in
-      omega (arith, rest, one, more)
-
   -- where it found none at place c, none was there, and the boxes and the log stay
   pub record PlacesStay (n : ℕ) (was now : PlainTable V O R T) (old new : PlainTrustee V O R T) : Type 0 where
     pub none : (c : ℕ) → c < n → is_asked (slot_of (core_at now) c).box ≡ false

@@ -1,19 +1,17 @@
 -- After all was closed: what was asked is served, and every trustee has ended.
 use Rattle.std.proofs.Common.{◌≡◌, ℕ, ◌+◌, ◌-◌, ◌^◌, ◌<◌, inl, inr, true, List, [], ◌∷◌, ◌++◌, length, map, min, sym, ◌∙◌, ap, subst, arith, append-nil}
 use Rattle.std.specs.Prelude.{slice_get}
-use Rattle.std.specs.declared.option.Option.{Option}
-use Rattle.std.specs.declared.option.Option.TheVariants.{None, Some}
+use Rattle.std.specs.declared.option.Option.TheVariants.{Some}
 use Rattle.std.proofs.lemmas.Option.{slice_get_within}
 use Rattle.tm_seq.specs.Kind.{Kind}
 use Rattle.tm_batch.specs.declared.config.Config.{Config}
 use Rattle.tm_batch.specs.declared.config.First.{First}
-use Rattle.tm_batch.specs.declared.message.Request.{Request}
 use Rattle.tm_batch.specs.declared.message.Request.TheVariants.{Bye}
+use Rattle.tm_model.specs.Opening.{opening_of}
 use Rattle.tm_model.specs.Lists.{IsPrefix}
 use Rattle.tm_model.specs.Ran.{ran}
 use Rattle.tm_model.specs.Holds.{has_bye}
 use Rattle.tm_state.specs.Represents.{requests_in}
-use Rattle.tm_pair.specs.Views.{BatchView}
 use Rattle.tm_pair.specs.Plain.{opening_at, client_at, trustee_at, plain_theory}
 use Rattle.tm_pair.specs.declared.plain.PlainTable.{PlainTable}
 use Rattle.tm_pair.specs.declared.plain.PlainClient.{PlainClient}
@@ -22,7 +20,7 @@ use Rattle.tm_trustee.specs.Serving.{done_by, ups_of}
 use Rattle.tm_trustee.specs.Turn.{HasEnded}
 use Rattle.tm_trustee.proofs.Elements.{element_at, there_too, same_element}
 use Rattle.tm_client.specs.Clients.{come_of}
-use Rattle.tm_client.specs.Lanes.{asks_in, accepted, out_requests, unanswered}
+use Rattle.tm_client.specs.Lanes.{asks_in, accepted}
 use Rattle.tm_turns.specs.Whole.{OneClient, OneLane, OneTrustee, HasLane, AreOf, Keeps, EachClient}
 use Rattle.tm_turns.specs.Going.{HasRun}
 use Rattle.tm_turns.specs.Resting.{AreAtRest}
@@ -32,6 +30,7 @@ use Rattle.tm_turns.proofs.Ones.{bool_cases}
 use Rattle.tm_turns.proofs.Seated.{home_at}
 use Rattle.tm_turns.proofs.Following.{run_follows, prefix_on}
 use Rattle.tm_turns.proofs.Shutting.{shut_same, shut_closing, all_taken}
+use Rattle.tm_turns.proofs.Taken.{taken_counts}
 use Rattle.tm_turns.proofs.Ended.{lane_ran_all, all_ended, nested_ran}
 
 module _ {V C O R T : Type 0} where
@@ -95,14 +94,10 @@ module _ {V C O R T : Type 0} (kind : Kind V O R T) (config : Config) (first : L
       let (e, has_e, asked_e) = follow_e.lanes c t d has_d in
       let quiet = rests_served.lanes c t b has_b in
       let (number, many, client_is) = are_taken.clients c has_d.client has_d.of_client in
-      let counts = (client_is.lanes t d has_d.of_lane).counting in
-      let out : (client_at d.side).out ≡ None = ap (λ (s : PlainClient V O R T). (client_at s).out) its.side ∙ quiet.out in
-      let waits : d.waits.items ≡ [] = ap (λ w. w.items) its.waits ∙ quiet.waits in
-      let none : unanswered client_at d ≡ [] =
-      ap (λ (o : Option (BatchView V O R T)). asks_in (out_requests o) ++ d.waits.items) out ∙ waits in
-      let none_count : length (unanswered client_at d) ≡ 0 = ap (λ (qs : List (Request V O R T)). length qs) none in
       let come : come_of t has_d.client.books.arrived.items ≡ 0 = ap (λ xs. come_of t xs) took.none in
-      let zero_d : d.counting ≡ 0 = omega (arith, counts, none_count, come) in
+      let zero_d : d.counting ≡ 0 =
+      taken_counts kind (opening_of t config first) has_d.client.books.number (come_of t has_d.client.books.arrived.items) b d quiet its
+      (client_is.lanes t d has_d.of_lane) come in
       let same_a : accepted client_at a ≡ accepted client_at lane =
       ap (λ (s : PlainClient V O R T). asks_in (client_at s).sent ++ a.waits.items) side_a ∙ ap (λ w. asks_in (client_at lane.side).sent ++ w.items) waits_a in
       let same_d : accepted client_at d ≡ accepted client_at b =

@@ -1,5 +1,5 @@
 -- What the turns of one round tell, in which nothing moved: of each lane, and of each trustee.
-use Rattle.std.proofs.Common.{◌≡◌, ℕ, ◌+◌, ◌<◌, inl, inr, true, false, List, [], length, refl, sym, ◌∙◌, ap, subst, arith}
+use Rattle.std.proofs.Common.{◌≡◌, ◌≢◌, ℕ, ◌+◌, ◌<◌, ◌⊎◌, inl, inr, true, false, List, [], length, refl, sym, ◌∙◌, ap, subst, arith}
 use Rattle.std.specs.Prelude.{slice_get}
 use Rattle.std.specs.List.{range_with_len}
 use Rattle.std.specs.declared.option.Option.TheVariants.{None, Some}
@@ -39,17 +39,18 @@ range_at n k lt =
     let is : 0 + k ≡ k = omega arith in
     slice_get-get_or (range_with_len 0 n) k 0 within ∙ ap (λ m. Some m) (get_or-range_with_len 0 n k 0 lt ∙ is)
 
-module _ {V O R T : Type 0} where
+module _ {V C O R T : Type 0} where
   -- a Bye is due by the marks of a lane, and a fetch is
-  abbrev ByeDueOf : Marks V O R T → Type 0
+  abbrev ByeDueOf : Marks V C O R T → Type 0
   ByeDueOf m = (m.waits ≡ []) × (m.closing ≡ true) × (has_bye m.sent ≡ false) × (m.counting ≡ 0)
 
-  abbrev FetchDueOf : Marks V O R T → Type 0
-  FetchDueOf m = (m.waits ≡ []) × (¬ (ByeDueOf m)) × (has_bye m.sent ≡ false) × (m.fetching ≡ true)
+  abbrev FetchDueOf : Marks V C O R T → Type 0
+  FetchDueOf m = (m.waits ≡ []) × (¬ (ByeDueOf m)) × (has_bye m.sent ≡ false) × ((m.fetching ≡ true) ⊎ (m.launched ≢ []))
 
-  abbrev NothingDueOf : Marks V O R T → Type 0
+  abbrev NothingDueOf : Marks V C O R T → Type 0
   NothingDueOf m = (m.waits ≡ []) × (¬ (ByeDueOf m)) × (¬ (FetchDueOf m))
 
+module _ {V O R T : Type 0} where
   free_box : (box : FullBox V O R T) (sent : List (Request V O R T)) (batch : BatchView V O R T) → batch_out box sent ≡ Some batch → box ≡ Empty → ⊥
   free_box box sent batch out empty =
       let none : batch_out box sent ≡ None = ap (λ (b : FullBox V O R T). batch_out b sent) empty in cc

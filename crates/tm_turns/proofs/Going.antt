@@ -1,16 +1,17 @@
 -- One turn more behind some turns.
-use Rattle.std.proofs.Common.{◌≡◌, ℕ, zero, suc, ◌+◌, ◌-◌, ◌^◌, ◌≤◌, Bool, false, List, [], ◌∷◌, ◌++◌, length, map, min, refl, sym, ◌∙◌, ap, subst, arith}
+use Rattle.std.proofs.Common.{◌≡◌, ℕ, zero, suc, ◌+◌, ◌-◌, ◌^◌, ◌≤◌, ◌<◌, Bool, false, List, [], ◌∷◌, ◌++◌, length, map, min, refl, sym, ◌∙◌, ap, subst, arith}
 use Rattle.std.specs.Prelude.{◌||◌}
 use Rattle.std.specs.List.{range_with_len}
 use Rattle.std.proofs.lemmas.List.FromFn.{map-range_with_len_more}
-use Rattle.tm_seq.specs.Kind.{Kind}
+use Rattle.tm_seq.specs.Kind.{Kind, KindLaws}
 use Rattle.tm_client.specs.declared.answers.Turn.{Turn}
 use Rattle.tm_turns.specs.Whole.{AreOf, AreTurns, Keeps}
 use Rattle.tm_turns.specs.Going.{has_moved, TurnsAt, TurnsBelow, Goes, AllGo, GoesRound, Rounds, HasRun}
 use Rattle.tm_turns.specs.Resting.{AreAtRest}
 use Rattle.tm_turns.specs.declared.turns.Turns.{Turns}
-use Rattle.tm_turns.proofs.Falling.{all_lessen, turns_still}
+use Rattle.tm_turns.proofs.Falling.{all_keep, turns_still}
 use Rattle.tm_turns.proofs.AtRest.{at_rest}
+use Rattle.tm_turns.proofs.Measure.{measure, round_lessens}
 use Rattle.tm_turns.proofs.Ones.{one_of}
 
 map_same : (xs : List ℕ) → map (λ n. n) xs ≡ xs
@@ -90,32 +91,45 @@ module _ {V C O R T : Type 0} (kind : Kind V O R T) where
   pub run_keeps :
       (order : List ℕ) (n more : ℕ) (old new : Turns V C O R T) → IsRunning order n more old new → AreTurns kind new
   run_keeps order n more old new is =
-      let (falls, kept) = all_lessen kind _ more is.last new is.are is.round in turns_still kind is.last new kept is.are
+      turns_still kind is.last new (all_keep kind _ more is.last new is.round) is.are
 
   pub rounds_keep : (rounds n : ℕ) (old new : Turns V C O R T) → AreTurns kind old → Rounds kind rounds n old new → Keeps kind old new
   unfolding Rounds
   rounds_keep zero n old new all (none, same) config first are = subst (λ x. AreOf kind config first x) (sym same) are
   rounds_keep (suc rounds) n old new all (mid, before, more, rest, round, some, is) config first are =
       let kept = rounds_keep rounds before old mid all rest in
-      let (falls, still) = all_lessen kind _ more mid new (turns_still kind old mid kept all) round in
-      still config first (kept config first are)
+      all_keep kind _ more mid new round config first (kept config first are)
+
+  -- what a run has still to do, by how many turns of its last round moved something
+  abbrev pub to_run : ℕ → Turns V C O R T → ℕ
+  to_run zero turns = 0
+  to_run (suc n) turns = measure kind turns + 1
+
+  -- one more round lessens it
+  pub run_lessens :
+      (laws : KindLaws kind) (before more : ℕ) (old new : Turns V C O R T) → AreTurns kind old → GoesRound kind more old new → 1 ≤ before
+      → to_run more new < to_run before old
+  run_lessens laws zero more old new all round some = absurd (omega (arith, some))
+  run_lessens laws (suc n) zero old new all round some = omega arith
+  run_lessens laws (suc n) (suc m) old new (config, first, are) round some =
+      let falls = round_lessens kind laws config first (suc m) old new are round (omega arith) in omega (arith, falls)
 
   -- a run keeps the whole of its build
   pub has_run_keeps : (order : List ℕ) (n : ℕ) (old new : Turns V C O R T) → AreTurns kind old → HasRun kind order n old new → Keeps kind old new
   has_run_keeps order n old new all run config first are =
-      let (falls, list) = all_lessen kind order run.first old run.listed all run.list in
+      let list = all_keep kind order run.first old run.listed run.list in
       let listed = turns_still kind old run.listed list all in
       let goes = rounds_keep run.rounds run.then run.listed run.last listed run.goes_round in
       let last = turns_still kind run.listed run.last goes listed in
-      let (none, still) = all_lessen kind _ 0 run.last new last run.quiet in
+      let still = all_keep kind _ 0 run.last new run.quiet in
       still config first (goes config first (list config first are))
 
   -- and ends at rest
   pub has_run_rests : (order : List ℕ) (n : ℕ) (old new : Turns V C O R T) → AreTurns kind old → HasRun kind order n old new → AreAtRest kind new
   has_run_rests order n old new all run =
-      let (falls, list) = all_lessen kind order run.first old run.listed all run.list in
+      let list = all_keep kind order run.first old run.listed run.list in
       let listed = turns_still kind old run.listed list all in
       let goes = rounds_keep run.rounds run.then run.listed run.last listed run.goes_round in
       let (config, first, are) = turns_still kind run.listed run.last goes listed in
-      let (none, still) = all_lessen kind _ 0 run.last new (config, first, are) run.quiet in
+      let still = all_keep kind _ 0 run.last new run.quiet in
       at_rest kind config first run.last new are (still config first are) run.quiet

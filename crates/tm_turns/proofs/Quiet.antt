@@ -20,6 +20,7 @@ use Rattle.tm_pair.specs.declared.moves.Move.TheVariants.{Collect}
 use Rattle.tm_pair.specs.declared.plain.PlainTable.{PlainTable}
 use Rattle.tm_pair.specs.declared.plain.PlainClient.{PlainClient}
 use Rattle.tm_trustee.specs.Above.{one_if, moves_up, all_moves_up, SaysByeAt}
+use Rattle.tm_client.specs.declared.lane.Unfinished.{Unfinished}
 use Rattle.tm_client.specs.declared.answers.Turn.{Turn}
 use Rattle.tm_client.specs.declared.answers.Turn.TheVariants.{Sent, Pending, Got, Idle}
 use Rattle.tm_turns.proofs.WentUp.{WentUp}
@@ -50,23 +51,25 @@ said_or a (inl b) = b
 said_or a (inr not) = absurd (not a)
 
 -- what a client keeps at a trustee, but for what looks change
-pub record Marks (V O R T : Type 0) : Type 0 where
+pub record Marks (V C O R T : Type 0) : Type 0 where
   pub waits : List (Request V O R T)
   pub sent : List (Request V O R T)
+  pub got : List (AnswerBatch V O R T)
   pub counting : ℕ
   pub closing : Bool
   pub fetching : Bool
+  pub launched : List (Unfinished C)
 
 -- what a trustee has of its log and above, likewise
 pub record Notes (V O R T : Type 0) : Type 0 where
   pub log : List (Entry V O R T)
   pub sent : List (List (Request V O R T))
 
-module _ {V O R T : Type 0} where
-  abbrev pub flat : Option (Option (Marks V O R T)) → Option (Marks V O R T)
-  flat None = None
-  flat (Some o) = o
+abbrev pub flat : {X : Type 0} → Option (Option X) → Option X
+flat None = None
+flat (Some o) = o
 
+module _ {V O R T : Type 0} where
   -- what stands in the box of place c of a table
   abbrev pub box_in : ℕ → PlainTable V O R T → FullBox V O R T
   box_in c table = (slot_of (core_at table) c).box
@@ -75,20 +78,22 @@ module _ {V O R T : Type 0} where
   notes trustee = record { log = (trustee_at trustee.side).log; sent = map (λ side. (client_at side).sent) trustee.above.items }
 
 module _ {V C O R T : Type 0} where
-  abbrev pub marks : OneLane V C O R T → Marks V O R T
+  abbrev pub marks : OneLane V C O R T → Marks V C O R T
   marks lane = record {
     waits = lane.waits.items;
     sent = (client_at lane.side).sent;
+    got = (client_at lane.side).got;
     counting = lane.counting;
     closing = lane.closing;
     fetching = lane.fetching;
+    launched = lane.launched.items;
   }
 
-  abbrev pub marks_of : ℕ → OneClient V C O R T → Option (Marks V O R T)
+  abbrev pub marks_of : ℕ → OneClient V C O R T → Option (Marks V C O R T)
   marks_of t client = at_some marks (slice_get client.books.lanes.items t)
 
   -- what client c keeps at trustee t
-  abbrev pub marks_at : Turns V C O R T → ℕ → ℕ → Option (Marks V O R T)
+  abbrev pub marks_at : Turns V C O R T → ℕ → ℕ → Option (Marks V C O R T)
   marks_at turns c t = flat (at_some (marks_of t) (slice_get turns.clients.items c))
 
   -- what stands in the box of place c of table t
@@ -135,10 +140,23 @@ module _ {V C O R T : Type 0} where
         let becomes = is.turned.becomes in
         let stays : becomes ≡ record lane { side = becomes.side } = looked.stays in
         let sent = looked.pending.sent in
-        let first : marks becomes ≡ record (marks lane) { sent = (client_at becomes.side).sent } =
-        ap (λ (x : OneLane V C O R T). record { waits = x.waits.items; sent = (client_at becomes.side).sent; counting = x.counting; closing = x.closing; fetching = x.fetching }) stays in
+        let got = looked.pending.got in
+        let first : marks becomes ≡ record (marks lane) { sent = (client_at becomes.side).sent; got = (client_at becomes.side).got } =
+        ap
+        (λ (x : OneLane V C O R T).
         record {
-          marks_stay = first ∙ ap (λ (s : List (Request V O R T)). record (marks lane) { sent = s }) sent;
+          waits = x.waits.items;
+          sent = (client_at becomes.side).sent;
+          got = (client_at becomes.side).got;
+          counting = x.counting;
+          closing = x.closing;
+          fetching = x.fetching;
+          launched = x.launched.items;
+        })
+        stays in
+        record {
+          marks_stay = first ∙ ap (λ (s : List (Request V O R T)). record (marks lane) { sent = s; got = (client_at becomes.side).got }) sent
+              ∙ ap (λ (g : List (AnswerBatch V O R T)). record (marks lane) { got = g }) got;
           boxes = λ k.
               ap (λ (core : FullCore V O R T). (slot_of core k).box) looked.did.core
               ∙ collect_none (core_at is.was) (client_at lane.side).place k looked.did.may;

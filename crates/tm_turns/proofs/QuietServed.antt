@@ -23,8 +23,7 @@ use Rattle.tm_turns.specs.Whole.{AreOf}
 use Rattle.tm_turns.specs.Going.{ServesAt}
 use Rattle.tm_turns.specs.declared.turns.Turns.{Turns}
 use Rattle.tm_turns.proofs.AskedServed.{PlacesStay, places_stay}
-use Rattle.tm_turns.proofs.Seated.{resumed_none}
-use Rattle.tm_turns.proofs.WentUp.{nothing_waits, went_up}
+use Rattle.tm_turns.proofs.WentUp.{went_up}
 use Rattle.tm_turns.proofs.WeightsUp.{moved_at}
 use Rattle.tm_turns.proofs.Quiet.{at_some, some_set, marks_of, flat, box_in, notes, Still, UpStays, up_stays, moved_none}
 
@@ -112,9 +111,7 @@ module _ {V C O R T : Type 0} (kind : Kind V O R T) (t : ℕ) (served : Served) 
       i (client_at before) (client_at after) p.quiet
       (mapped (λ (side : PlainClient V O R T). client_at side) is.trustee.above.items i before eb)
       (mapped (λ (side : PlainClient V O R T). client_at side) is.becomes.above.items i after ea) in
-      let none_was = resumed_none kind config first old are t is.trustee is.of_trustee in
-      let went = went_up kind _ _ x y before after
-      (nothing_waits (opening_at p.was).setup (is.trustee.number + 1 + i) (done_by (plain_theory kind) is.trustee) (client_at before) none_was) goes in
+      let went = went_up kind _ _ x y before after moved goes in
       up_stays kind (HaveAllEnded (opening_at p.was) (trustee_at is.becomes.side).log) x y before after (ready.above.mine i x before at_x eb) went moved
 
   boxes_stay : (k c : ℕ) (x y : PlainTable V O R T) → slice_get old.tables.items k ≡ Some x → slice_get new.tables.items k ≡ Some y → box_in c y ≡ box_in c x

@@ -11,7 +11,7 @@ use Rattle.tm_client.specs.declared.answers.Turn.{Turn}
 use Rattle.tm_turns.specs.Whole.{AreOf, Keeps}
 use Rattle.tm_turns.specs.Going.{has_moved, TurnsAt, TurnsBelow, Goes, AllGo}
 use Rattle.tm_turns.specs.declared.turns.Turns.{Turns}
-use Rattle.tm_turns.proofs.Falling.{below_lessens, goes_lessens}
+use Rattle.tm_turns.proofs.Falling.{below_keeps, goes_keeps}
 use Rattle.tm_turns.proofs.Quiet.{Still, still_same, still_on, turn_still}
 use Rattle.tm_turns.proofs.QuietServed.{serve_still}
 use Rattle.tm_turns.proofs.Ones.{one_of}
@@ -38,7 +38,7 @@ none_counted true m n e none = absurd (omega (arith, e, none))
 none_counted false m n e none = (refl, omega (arith, e, none))
 
 module _ {V C O R T : Type 0} (kind : Kind V O R T) (config : Config) (first : List (First V)) where
-  below_still :
+  pub below_still :
       (c n : ℕ) (moved : Bool) (old new : Turns V C O R T) → TurnsBelow kind c n moved old new → moved ≡ false → Still old new
   unfolding TurnsBelow
   below_still c zero moved old new is none = still_same old new is.1
@@ -46,7 +46,7 @@ module _ {V C O R T : Type 0} (kind : Kind V O R T) (config : Config) (first : L
       let (a, b) = or_false before (has_moved answer) (sym none ∙ is) in
       still_on old mid new (below_still c n before old mid below a) (turn_still kind c n answer mid new here b)
 
-  goes_still :
+  pub goes_still :
       (k : ℕ) (moved : Bool) (old new : Turns V C O R T) → AreOf kind config first old → Goes kind k moved old new → moved ≡ false → Still old new
   goes_still k moved old new are (inl client) none = below_still k (length old.tables.items) moved old new client.1 none
   goes_still k moved old new are (inr (inl (t, at, lt, (served, serves, is)))) none =
@@ -62,7 +62,7 @@ module _ {V C O R T : Type 0} (kind : Kind V O R T) (config : Config) (first : L
   all_still [] n old new are is none = still_same old new is.1
   all_still (k ∷ ks) n old new are (mid, moved, more, goes, rest, is) none =
       let (still, nought) = none_counted moved more n is none in
-      let (falls, kept) = goes_lessens kind k moved old mid (config, first, are) goes in
+      let kept = goes_keeps kind k moved old mid goes in
       still_on old mid new (goes_still k moved old mid are goes still) (all_still ks more mid new (kept config first are) rest nought)
 
   -- the turn of the number at an index, in turns of which none moved anything
@@ -82,7 +82,7 @@ module _ {V C O R T : Type 0} (kind : Kind V O R T) (config : Config) (first : L
   gone_at (x ∷ ks) zero k n old new are (mid, moved, more, goes, rest, is) none at =
       let (still, nought) = none_counted moved more n is none in
       let same : x ≡ k = some_is x k at in
-      let (falls, kept) = goes_lessens kind x moved old mid (config, first, are) goes in
+      let kept = goes_keeps kind x moved old mid goes in
       record {
         begins = old;
         ends = mid;
@@ -93,7 +93,7 @@ module _ {V C O R T : Type 0} (kind : Kind V O R T) (config : Config) (first : L
       }
   gone_at (x ∷ ks) (suc i) k n old new are (mid, moved, more, goes, rest, is) none at =
       let (still, nought) = none_counted moved more n is none in
-      let (falls, kept) = goes_lessens kind x moved old mid (config, first, are) goes in
+      let kept = goes_keeps kind x moved old mid goes in
       let later = gone_at ks i k more mid new (kept config first are) rest nought at in
       record { begins = later.begins; ends = later.ends; goes = later.goes; are = later.are; still = later.still; then = later.then }
 
@@ -125,7 +125,7 @@ module _ {V C O R T : Type 0} (kind : Kind V O R T) (config : Config) (first : L
   turn_within c zero t moved old new are is none lt = absurd (omega (arith, lt))
   turn_within c (suc n) t moved old new are (mid, before, answer, below, here, is) none lt =
       let (a, b) = or_false before (has_moved answer) (sym none ∙ is) in
-      let (falls, kept) = below_lessens kind c n before old mid below in
+      let kept = below_keeps kind c n before old mid below in
       let last = turn_still kind c n answer mid new here b in
       elim (cases_eq t n) [
         | inl e ↦

@@ -1,5 +1,5 @@
 -- Each place of a table has a side among the clients and the lower trustees, and that side stands for what the table's core shows.
-use Rattle.std.proofs.Common.{◌≡◌, ℕ, ◌+◌, ◌-◌, ◌<◌, ◌⊎◌, inl, inr, List, [], ◌∷◌, ◌++◌, length, refl, sym, ◌∙◌, ap, subst, arith, append-nil}
+use Rattle.std.proofs.Common.{◌≡◌, ℕ, ◌+◌, ◌-◌, ◌<◌, ◌⊎◌, inl, inr, List, length, sym, ◌∙◌, ap, subst, arith}
 use Rattle.std.specs.Prelude.{slice_get}
 use Rattle.std.specs.declared.option.Option.TheVariants.{Some}
 use Rattle.std.proofs.lemmas.Option.{slice_get_within}
@@ -7,50 +7,19 @@ use Rattle.std.proofs.lemmas.Bool.{cases_lt}
 use Rattle.tm_seq.specs.Kind.{Kind}
 use Rattle.tm_batch.specs.declared.config.Config.{Config}
 use Rattle.tm_batch.specs.declared.config.First.{First}
-use Rattle.tm_model.specs.declared.entry.Entry.{Entry}
-use Rattle.tm_model.specs.declared.entry.Entry.TheVariants.{By, Resume, Sent}
 use Rattle.tm_model.specs.State.{State, place_count}
-use Rattle.tm_model.specs.Slots.{Empty, Asked, Taken, Answered, slot_of}
-use Rattle.tm_model.specs.Good.{FullBox, FullSlot}
-use Rattle.tm_model.specs.GoodSlots.{Agrees}
-use Rattle.tm_model.specs.Legal.{IsLegal}
-use Rattle.tm_model.specs.Lists.{IsPrefix}
-use Rattle.tm_model.specs.Ran.{mark_of, ran}
-use Rattle.tm_model.specs.Batches.{batches}
-use Rattle.tm_model.specs.Entries.{AreResumes}
-use Rattle.tm_model.specs.Holds.{launches_in, unfinished}
-use Rattle.tm_model.specs.Serve.{state_after}
-use Rattle.tm_core.proofs.Marks.{ran-append}
-use Rattle.tm_pair.specs.Views.{ClientView, TrusteeView}
+use Rattle.tm_model.specs.Slots.{slot_of}
 use Rattle.tm_pair.specs.SideViews.{client_of}
-use Rattle.tm_pair.specs.Plain.{opening_at, core_at, client_at, trustee_at, IsClientOf, IsTrusteeOf, plain_theory}
+use Rattle.tm_pair.specs.Plain.{opening_at, core_at, client_at, IsClientOf, IsTrusteeOf, plain_theory}
 use Rattle.tm_pair.specs.declared.plain.PlainTable.{PlainTable}
 use Rattle.tm_pair.specs.declared.plain.PlainClient.{PlainClient}
-use Rattle.tm_trustee.specs.Serving.{IsServing, resumes_in, done_by}
+use Rattle.tm_trustee.specs.Serving.{IsServing}
 use Rattle.tm_trustee.proofs.Elements.{element_at, mapped}
 use Rattle.tm_trustee.proofs.TurningReady.{at_home, own_table}
 use Rattle.tm_turns.specs.Whole.{OneLane, OneTrustee, HasLane, AreOf}
 use Rattle.tm_turns.specs.declared.turns.Turns.{Turns}
 use Rattle.tm_turns.proofs.TurnKeeps.{place_of_lane}
 use Rattle.tm_turns.proofs.ServeKeeps.{clients_of}
-use Rattle.tm_turns.proofs.Unlaunched.{launches_none, front_launches, none_unfinished, resumes_none}
-
-module _ {V O R T : Type 0} where
-  -- what was run of a place begins what it sent
-  ran_begins :
-      (kind : Kind V O R T) (opening : State V O R T) (box : FullBox V O R T) (slot : FullSlot V O R T) (c : ℕ) (log : List (Entry V O R T))
-      → Agrees mark_of (batches kind opening) (IsLegal kind opening) box slot c log → IsPrefix (ran c log) slot.sent
-  ran_begins kind opening Empty slot c log agrees = ([], agrees.1 ∙ sym (append-nil (ran c log)))
-  ran_begins kind opening (Asked b room) slot c log agrees = (b, agrees.1)
-  ran_begins kind opening (Taken b room) slot c log agrees = (b, agrees.1)
-  ran_begins kind opening (Answered a upto room) slot c log agrees = ([], agrees.1 ∙ sym (append-nil (ran c log)))
-
-  -- resumes run nothing of a place
-  resumes_ran : (c : ℕ) (es : List (Entry V O R T)) → AreResumes es → ran c es ≡ []
-  resumes_ran c [] only = refl
-  resumes_ran c (Resume id ticket event next ∷ es) only = resumes_ran c es only
-  resumes_ran c (By d k q a ∷ es) only = absurd only
-  resumes_ran c (Sent d room ∷ es) only = absurd only
 
 module _ {V C O R T : Type 0} (kind : Kind V O R T) where
   -- the side of place c of table t: that of a client, or that of a lower trustee
@@ -152,64 +121,3 @@ module _ {V C O R T : Type 0} (kind : Kind V O R T) where
     home_at t table trustee at of =
         let (number, ready) = are.trustees t trustee of in
         at_home (plain_theory kind) kind turns.tables.items trustee table ready (subst (λ k. slice_get turns.tables.items k ≡ Some table) (sym number) at)
-
-    -- no place launched anything
-    launched_none :
-        (t c : ℕ) (table : PlainTable V O R T) → slice_get turns.tables.items t ≡ Some table → c < place_count (opening_at table).setup
-        → launches_in (slot_of (core_at table) c).sent ≡ 0
-    launched_none t c table at lt =
-        elim (side_at t c table at lt) [
-          | inl l ↦
-              let (lane, has) = l in
-              let (number, many, ok) = are.clients c has.client has.of_client in
-              ap (λ (view : ClientView V O R T). launches_in view.sent) (sym (lane_shows t c table lane at has)) ∙ (ok.lanes t lane has.of_lane).launches
-          | inr s ↦
-              let (number, ready) = are.trustees s.number s.trustee s.of_trustee in
-              let (own, at_own) = own_table (plain_theory kind) kind turns.tables.items s.trustee ready in
-              let home = at_home (plain_theory kind) kind turns.tables.items s.trustee own ready at_own in
-              let asked = home.1.above.asked s.index (client_at s.seat)
-              (mapped (λ (side : PlainClient V O R T). client_at side) s.trustee.above.items s.index s.seat s.of_seat) in
-              ap (λ (view : ClientView V O R T). launches_in view.sent) (sym (seat_shows t c table at s)) ∙ launches_none (client_at s.seat).sent asked
-        ]
-
-    -- so nothing that a trustee has run was launched
-    none_launched :
-        (t c : ℕ) (table : PlainTable V O R T) (trustee : OneTrustee V O R T) → slice_get turns.tables.items t ≡ Some table
-        → slice_get turns.trustees.items t ≡ Some trustee → c < place_count (opening_at table).setup
-        → launches_in (ran c (done_by (plain_theory kind) trustee)) ≡ 0
-    none_launched t c table trustee at of below =
-        let (mine, serving) = home_at t table trustee at of in
-        let log_of = (trustee_at trustee.side).log in
-        let since = trustee.since.items in
-        let log : log_of ≡ (core_at table).log = ap (λ (v : TrusteeView V O R T). v.log) mine.view in
-        let places = mine.of_table.good.places in
-        let slot = mine.of_table.good.slots.slots c (omega (arith, below, places)) in
-        let begins = ran_begins kind (opening_at table) (slot_of (core_at table) c).box (slot_of (core_at table) c) c (core_at table).log slot.agrees in
-        let none = front_launches (ran c (core_at table).log) (slot_of (core_at table) c).sent begins (launched_none t c table at below) in
-        let same : ran c (log_of ++ since) ≡ ran c (core_at table).log =
-        ran-append mark_of c log_of since ∙ ap (λ xs. ran c log_of ++ xs) (resumes_ran c since serving.current.only) ∙ append-nil (ran c log_of)
-        ∙ ap (λ l. ran c l) log in
-        ap launches_in same ∙ none
-
-    -- and no launch is unfinished
-    pub unfinished_none :
-        (t c : ℕ) (table : PlainTable V O R T) (trustee : OneTrustee V O R T) → slice_get turns.tables.items t ≡ Some table
-        → slice_get turns.trustees.items t ≡ Some trustee → c < place_count (opening_at table).setup
-        → unfinished c (state_after kind (opening_at table) (done_by (plain_theory kind) trustee)).live ≡ 0
-    unfinished_none t c table trustee at of below =
-        let (mine, serving) = home_at t table trustee at of in
-        let done : List (Entry V O R T) = done_by (plain_theory kind) trustee in
-        none_unfinished kind (opening_at table) serving.current.represents.opens c done [] below serving.current.represents.is_legal
-        (ap (λ l. launches_in (ran c l)) (append-nil done) ∙ none_launched t c table trustee at of below)
-
-    -- so no trustee has resumed anything
-    pub resumed_none :
-        (t : ℕ) (trustee : OneTrustee V O R T) → slice_get turns.trustees.items t ≡ Some trustee → resumes_in (done_by (plain_theory kind) trustee) ≡ 0
-    resumed_none t trustee of =
-        let lt = slice_get_within turns.trustees.items t trustee of in
-        let trustees = are.as_many_trustees in
-        let tables = are.as_many_tables in
-        let (table, at) = element_at turns.tables.items t (omega (arith, lt, trustees, tables)) in
-        let (mine, serving) = home_at t table trustee at of in
-        resumes_none kind (opening_at table) serving.current.represents.opens [] (done_by (plain_theory kind) trustee) serving.current.represents.is_legal
-        (λ c below. none_launched t c table trustee at of below)

@@ -107,6 +107,7 @@ module _ {V C D O R T : Type 0} where
     pub side : becomes.side ≡ lane.side
     pub waits : becomes.waits ≡ lane.waits
     pub closing : becomes.closing ≡ lane.closing
+    pub launched : becomes.launched ≡ lane.launched
 
   pub record TakenLanes (old new : Books V C D O R T) : Type 0 where
     pub number : new.number ≡ old.number
@@ -119,6 +120,7 @@ module _ {V C D O R T : Type 0} where
     side = ap (λ (l : Lane V C D O R T). l.side) is;
     waits = ap (λ (l : Lane V C D O R T). l.waits) is;
     closing = ap (λ (l : Lane V C D O R T). l.closing) is;
+    launched = ap (λ (l : Lane V C D O R T). l.launched) is;
   }
 
   one_taken : (old new : Books V C D O R T) (after : C) (got : Got V O R T) → HasTaken after got old new → TakenLanes old new
@@ -134,6 +136,7 @@ module _ {V C D O R T : Type 0} where
                 side = ap (λ (l : Lane V C D O R T). l.side) h.1 ∙ is.counts.side ∙ ap (λ (l : Lane V C D O R T). l.side) (sym same);
                 waits = ap (λ (l : Lane V C D O R T). l.waits) h.1 ∙ is.counts.waits ∙ ap (λ (l : Lane V C D O R T). l.waits) (sym same);
                 closing = ap (λ (l : Lane V C D O R T). l.closing) h.1 ∙ is.counts.closing ∙ ap (λ (l : Lane V C D O R T). l.closing) (sym same);
+                launched = ap (λ (l : Lane V C D O R T). l.launched) h.1 ∙ is.counts.launched ∙ ap (λ (l : Lane V C D O R T). l.launched) (sym same);
               }
           | inr h ↦ lane_same lane becomes (same_element old.lanes.items t lane becomes at h.1)
         ];
@@ -158,7 +161,7 @@ module _ {V C D O R T : Type 0} where
             let (one, at_one) = there_too old.lanes.items mid.lanes.items t lane before.as_many at in
             let f = before.lanes t lane one at at_one in
             let g = last.lanes t one becomes at_one e in
-            record { side = g.side ∙ f.side; waits = g.waits ∙ f.waits; closing = g.closing ∙ f.closing };
+            record { side = g.side ∙ f.side; waits = g.waits ∙ f.waits; closing = g.closing ∙ f.closing; launched = g.launched ∙ f.launched };
       }
 
   pub all_taken : (old new : Books V C D O R T) → HasTakenAll old new → TakenLanes old new

@@ -1,7 +1,8 @@
 //! Clients and trustees on one thread, which take turns.
 //!
 //! [`Turns::build`] makes them from a config and a list of objects, [`Turns::serve`] is one trustee's turn, and
-//! [`Turns::run`] makes turns until nothing moves. All is proved from the clauses of clients, tables and trustees.
+//! [`Turns::run`] makes turns until nothing moves. [`Turns::close`] serves what was asked and ends everything. All is
+//! proved from the clauses of clients, tables and trustees.
 //! [`one_good_core`] states what the sides of one trustee show together.
 #![tactic(auto)]
 

@@ -151,8 +151,8 @@ impl<S: FitsTable, C: Drop> Turns<S, C> {
     /// turn at every trustee; `clients + t` is trustee `t`'s serving turn; a greater one does nothing. It always returns,
     /// with the number of turns that moved something, or `u64::MAX` where that is greater.
     ///
-    /// Then nothing waits to be published at any client, nothing is out, and each trustee whose places have all said
-    /// `Bye` has ended.
+    /// Then nothing waits to be published at any client, nothing is out, no launch is unfinished, and each trustee whose
+    /// places have all said `Bye` has ended.
     pub fn run<G: Gate>(&mut self, order: &[u32], gate: &G) -> u64
         requires are { AreTurns S.kind self.old }
         ensures run { HasRun S.kind order.now result self.old self.new }

@@ -1,7 +1,7 @@
 use Rattle.std.proofs.Common.{◌≡◌, ◌+◌, take, slice_index_or, sym, ◌∙◌, ap, subst, arith}
 use Rattle.std.proofs.lemmas.List.{take_more, take_all}
 use Rattle.tm_turns.specs.Going.{AllGo}
-use Rattle.tm_turns.proofs.Falling.{all_lessen, turns_still}
+use Rattle.tm_turns.proofs.Falling.{all_keep, turns_still}
 use Rattle.tm_turns.proofs.Going.{go_none, go_more}
 use Rattle.tm_turns.proofs.Ones.{one_of, one_at_most, byte_is}
 use Rattle.tm_turns.proofs.turns.Turns.go_each.Goals as goal
@@ -11,8 +11,7 @@ loop-number-init g c = record { goes = go_none g.S.Entrusted.kind c.args.self.no
 
 pub go-requires : goal.go-requires
 go-requires g c =
-    let (falls, kept) = all_lessen g.S.Entrusted.kind (take c.loop-number.number-index c.args.order.now) c.loop-number.moved c.args.self.now c.loop-number.self c.requires.are
-    c.loop-number.invariant.goes in
+    let kept = all_keep g.S.Entrusted.kind (take c.loop-number.number-index c.args.order.now) c.loop-number.moved c.args.self.now c.loop-number.self c.loop-number.invariant.goes in
     record { are = turns_still g.S.Entrusted.kind c.args.self.now c.loop-number.self kept c.requires.are }
 
 pub loop-number-preserved : goal.loop-number-preserved

@@ -1,17 +1,17 @@
 use Rattle.std.proofs.Common.{◌+◌, suc, subst, arith}
 use Rattle.tm_turns.specs.Going.{GoesRound}
-use Rattle.tm_turns.proofs.Falling.{all_lessen, turns_still}
-use Rattle.tm_turns.proofs.Going.{rounds_none, rounds_more, run_keeps, has_run_keeps, has_run_rests}
+use Rattle.tm_turns.proofs.Falling.{all_keep, turns_still}
+use Rattle.tm_turns.proofs.Going.{rounds_none, rounds_more, run_keeps, run_lessens, has_run_keeps, has_run_rests}
 use Rattle.tm_turns.proofs.turns.Turns.run.Goals as goal
 
 pub go_round-more-requires : goal.go_round-more-requires
 go_round-more-requires g c =
-    let (falls, kept) = all_lessen g.S.Entrusted.kind c.args.order.now c.go_each-moved.result c.args.self.now c.go_each-moved.new.self c.requires.are c.go_each-moved.ensures in
+    let kept = all_keep g.S.Entrusted.kind c.args.order.now c.go_each-moved.result c.args.self.now c.go_each-moved.new.self c.go_each-moved.ensures in
     record { are = turns_still g.S.Entrusted.kind c.args.self.now c.go_each-moved.new.self kept c.requires.are }
 
 pub loop-more-init : goal.loop-more-init
 loop-more-init g c =
-    let (falls, kept) = all_lessen g.S.Entrusted.kind c.args.order.now c.go_each-moved.result c.args.self.now c.go_each-moved.new.self c.requires.are c.go_each-moved.ensures in
+    let kept = all_keep g.S.Entrusted.kind c.args.order.now c.go_each-moved.result c.args.self.now c.go_each-moved.new.self c.go_each-moved.ensures in
     let fits = c.go_each-moved.type_inv in
     record {
       listed = c.go_each-moved.new.self;
@@ -33,9 +33,8 @@ go_round-more-requires-in-loop-more g c =
 pub loop-more-smaller : goal.loop-more-smaller
 loop-more-smaller g c =
     let are = run_keeps g.S.Entrusted.kind c.args.order.now c.loop-more.moved c.loop-more.more c.args.self.now c.loop-more.self c.loop-more.invariant in
-    let (falls, kept) = all_lessen g.S.Entrusted.kind _ c.go_round-more-in-loop-more.result c.loop-more.self c.go_round-more-in-loop-more.new.self are c.go_round-more-in-loop-more.ensures in
-    let some = c.loop-more-test.true in
-    omega (arith, falls, some)
+    run_lessens g.S.Entrusted.kind g.met.S.Entrusted.laws c.loop-more.more c.go_round-more-in-loop-more.result c.loop-more.self c.go_round-more-in-loop-more.new.self are
+    c.go_round-more-in-loop-more.ensures c.loop-more-test.true
 
 pub loop-more-preserved : goal.loop-more-preserved
 loop-more-preserved g c =

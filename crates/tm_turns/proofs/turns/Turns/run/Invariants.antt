@@ -1,6 +1,4 @@
-use Rattle.std.proofs.Common.{◌+◌}
-use Rattle.tm_turns.proofs.Falling.{weight}
-use Rattle.tm_turns.proofs.Going.{IsRunning}
+use Rattle.tm_turns.proofs.Going.{IsRunning, to_run}
 use Rattle.tm_turns.proofs.turns.Turns.run.Given as goal
 
 -- what was done before the last round
@@ -8,4 +6,4 @@ abbrev pub invariant-loop-more : goal.invariant-loop-more
 invariant-loop-more g l = IsRunning g.S.Entrusted.kind l.order l.moved l.more l.fn.self l.self
 
 abbrev pub decreases-loop-more : goal.decreases-loop-more
-decreases-loop-more g l = weight g.S.Entrusted.kind l.self + l.more
+decreases-loop-more g l = to_run g.S.Entrusted.kind l.more l.self

@@ -1,7 +1,7 @@
 use Rattle.std.proofs.Common.{◌∙◌, ap, subst, arith}
 use Rattle.std.specs.Prelude.{◌||◌}
 use Rattle.tm_turns.specs.Going.{TurnsBelow}
-use Rattle.tm_turns.proofs.Falling.{below_lessens, turns_still}
+use Rattle.tm_turns.proofs.Falling.{below_keeps, turns_still}
 use Rattle.tm_turns.proofs.Going.{below_none, below_more, same_counts}
 use Rattle.tm_turns.proofs.turns.Turns.turn_all.Goals as goal
 
@@ -10,12 +10,12 @@ loop-trustee-init g c = below_none g.S.Entrusted.kind c.args.client c.args.self.
 
 pub turn_at-answer-requires-clause-are : goal.turn_at-answer-requires-clause-are
 turn_at-answer-requires-clause-are g c =
-    let (falls, kept) = below_lessens g.S.Entrusted.kind c.args.client c.loop-trustee.trustee c.loop-trustee.moved c.args.self.now _ c.loop-trustee.invariant in
+    let kept = below_keeps g.S.Entrusted.kind c.args.client c.loop-trustee.trustee c.loop-trustee.moved c.args.self.now _ c.loop-trustee.invariant in
     turns_still g.S.Entrusted.kind c.args.self.now _ kept c.requires.are
 
 pub turn_at-answer-requires-clause-client : goal.turn_at-answer-requires-clause-client
 turn_at-answer-requires-clause-client g c =
-    let (falls, kept) = below_lessens g.S.Entrusted.kind c.args.client c.loop-trustee.trustee c.loop-trustee.moved c.args.self.now _ c.loop-trustee.invariant in
+    let kept = below_keeps g.S.Entrusted.kind c.args.client c.loop-trustee.trustee c.loop-trustee.moved c.args.self.now _ c.loop-trustee.invariant in
     let same = same_counts g.S.Entrusted.kind c.args.self.now _ kept c.requires.are in
     let lt = c.requires.client in
     let clients = same.0 in
@@ -23,7 +23,7 @@ turn_at-answer-requires-clause-client g c =
 
 pub turn_at-answer-requires-clause-trustee : goal.turn_at-answer-requires-clause-trustee
 turn_at-answer-requires-clause-trustee g c =
-    let (falls, kept) = below_lessens g.S.Entrusted.kind c.args.client c.loop-trustee.trustee c.loop-trustee.moved c.args.self.now _ c.loop-trustee.invariant in
+    let kept = below_keeps g.S.Entrusted.kind c.args.client c.loop-trustee.trustee c.loop-trustee.moved c.args.self.now _ c.loop-trustee.invariant in
     let same = same_counts g.S.Entrusted.kind c.args.self.now _ kept c.requires.are in
     let lt = c.loop-trustee-test.true in
     let many = c.len-trustees.ensures in
