@@ -1,6 +1,6 @@
 -- For tests: a runtime of two clients and two trustees, of which the greater has an object that client 0 holds, and what it is
 -- between two calls.
-use Rattle.std.specs.Prelude.{◌≡◌, ℕ, zero, suc, List, [], ◌∷◌, length, slice_get}
+use Rattle.std.specs.Prelude.{◌≡◌, ℕ, zero, suc, max, List, [], ◌∷◌, length, slice_get}
 use Rattle.std.specs.declared.option.Option.TheVariants.{Some}
 use Rattle.tm_seq.specs.Kind.{Kind}
 use Rattle.tm_batch.specs.declared.message.Name.{Name}
@@ -16,9 +16,9 @@ use Rattle.tm_client.specs.declared.client.Client.{Client}
 use Rattle.tm_client.specs.Asking.{At}
 use Rattle.tm_client.specs.Clients.{IsClient}
 
--- with room for so many trusts of each client
+-- with room for so many trusts of each client, and with as many ids, at least three
 abbrev pub small : ℕ → Config
-small trusts = record { clients = 2; trustees = 2; objects = 2; trusts = trusts; last_id = 3 }
+small trusts = record { clients = 2; trustees = 2; objects = 2; trusts = trusts; last_id = max trusts 3 }
 
 -- the object of the build, which client 0 holds
 abbrev pub one_object : {V : Type 0} → V → List (First V)

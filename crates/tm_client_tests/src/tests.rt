@@ -4,6 +4,7 @@ mod echo;
 mod endings;
 mod gates;
 mod gifts;
+mod launches;
 mod play;
 mod start;
 mod trusts;

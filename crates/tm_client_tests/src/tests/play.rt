@@ -31,6 +31,21 @@ impl<S: FitsBatches, P: PairTable<S>> Play<S, P> {
         self.clients[who].apply_then(trust, op, after)
     }
 
+    /// It launches work by a trust.
+    pub(super) fn launch(
+        &mut self,
+        who: usize,
+        trust: &Trust,
+        task: S::Task,
+        after: u32,
+    ) -> Result<(), Refused<(S::Task, u32)>>
+        requires plays { IsPlaying P.theory S.kind self.old.tables.items self.old.trustee self.old.clients.items }
+        requires who { who < 2 }
+        ensures { IsPlaying P.theory S.kind self.new.tables.items self.new.trustee self.new.clients.items }
+    {
+        self.clients[who].launch(trust, task, after)
+    }
+
     /// It entrusts a value.
     pub(super) fn entrust(
         &mut self,

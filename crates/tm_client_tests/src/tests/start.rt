@@ -16,7 +16,7 @@ use tm_client::{Client, Trust};
 use tm_pair::{FitsTable, PlainClient, PlainTable, PlainTrustee};
 use tm_trustee::Trustee;
 
-/// With room for two objects, three ids, and so many trusts of each client.
+/// With room for two objects and so many trusts of each client, and with as many ids, at least three.
 fn small(trusts: u32) -> Config
     ensures { result ≡ small trusts }
 {
@@ -25,7 +25,7 @@ fn small(trusts: u32) -> Config
         trustees: 2,
         objects: 2,
         trusts,
-        last_id: 3,
+        last_id: u64::from(trusts.max(3)),
     }
 }
 

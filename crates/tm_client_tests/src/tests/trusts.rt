@@ -138,7 +138,7 @@ fn trusts_are_full_with_those_that_may_come(rt: HostRuntime) -> Result<(), Fail>
 
 #[test]
 fn a_value_is_refused_where_objects_are_full_or_ids_spent(rt: HostRuntime) -> Result<(), Fail> {
-    let (mut play, _) = start(rt.alloc(), Counter { value: 0 }, 4)?;
+    let (mut play, _) = start(rt.alloc(), Counter { value: 0 }, 3)?;
     spent(&rt, &mut play);
     Ok(())
 }
