@@ -110,7 +110,7 @@ fn take(turns: &mut Counters) -> Option<(u64, Got<Counter>)>
 }
 
 /// Asks as many additions as count at once.
-fn fill(turns: &mut Counters, trust: &Trust, additions: &mut Additions)
+pub(crate) fn fill(turns: &mut Counters, trust: &Trust, additions: &mut Additions)
     requires { IsOfOne turns.old }
     ensures { IsOfOne turns.new }
 {

@@ -2,4 +2,5 @@
 
 mod adding;
 mod building;
+mod closing;
 mod first_program;
