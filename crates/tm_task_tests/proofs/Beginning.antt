@@ -14,15 +14,22 @@ use Rattle.tm_client.specs.Begun.{HasBegun, IsFirstTrust, new_lane}
 use Rattle.tm_client.specs.Clients.{IsClient}
 use Rattle.tm_client.specs.Listing.{hold_of}
 use Rattle.tm_task.specs.declared.stage.Stage.{Stage}
-use Rattle.tm_task.specs.Ours.{of_arrived, of_waiting, waiting_at, counting_for, awaits, AreTheirs, HoldsOpen}
+use Rattle.tm_task.specs.Ours.{of_arrived, of_launched, of_waiting, launched_at, waiting_at, counting_for, awaits, AreTheirs, HoldsOpen}
 
--- nothing waits at a lane as at first, and it is open
+-- nothing waits at a lane as at first, no launch lacks its completion, and it is open
 none_waits :
     (V O R K : Type 0) {D : Type 0} (n id : ℕ) (sides : List D) (t : ℕ)
     → of_waiting n id (waiting_at (slice_get (map (new_lane {V = V} {C = ℕ} {D = D} {O = O} {R = R} {T = K}) sides) t)) ≡ 0
 none_waits V O R K n id [] t = refl
 none_waits V O R K n id (side ∷ sides) zero = refl
 none_waits V O R K n id (side ∷ sides) (suc t) = none_waits V O R K n id sides t
+
+none_launched :
+    (V O R K : Type 0) {D : Type 0} (n id : ℕ) (sides : List D) (t : ℕ)
+    → of_launched n id (launched_at (slice_get (map (new_lane {V = V} {C = ℕ} {D = D} {O = O} {R = R} {T = K}) sides) t)) ≡ 0
+none_launched V O R K n id [] t = refl
+none_launched V O R K n id (side ∷ sides) zero = refl
+none_launched V O R K n id (side ∷ sides) (suc t) = none_launched V O R K n id sides t
 
 is_open :
     (V O R K : Type 0) {D : Type 0} (sides : List D) (t : ℕ)
@@ -38,8 +45,9 @@ module _ {V O R K D : Type 0} where
     none_counts : (n t id : ℕ) → counting_for n t id books ≡ 0
     none_counts n t id =
         let waits = ap (λ xs. of_waiting n id (waiting_at (slice_get xs t))) begun.lanes ∙ none_waits V O R K n id sides t in
+        let launched = ap (λ xs. of_launched n id (launched_at (slice_get xs t))) begun.lanes ∙ none_launched V O R K n id sides t in
         let arrived : of_arrived n t id books.arrived.items ≡ 0 = ap (λ a. of_arrived n t id a.items) begun.arrived in
-        omega (arith, waits, arrived)
+        omega (arith, waits, launched, arrived)
 
     -- where there are no tasks
     pub theirs_first : {W U : Type 0} (trusts : List Trust) (stages : List (Stage V W U O R K)) → stages ≡ [] → AreTheirs trusts stages books
