@@ -53,6 +53,11 @@ after_lack sink =
       lacked = one_fault_more sink.lacked;
     }
 
+-- a sink whose bytes stand under a lock: the most that a write takes, and which calls fail
+pub record PostState : Type 0 where
+  pub most : ℕ
+  pub plan : Plan
+
 -- a clock: the readings so far, the readings to come, and the last one, which is 0 at first
 pub record ClockState : Type 0 where
   pub so_far : List ℕ

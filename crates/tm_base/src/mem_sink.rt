@@ -6,6 +6,7 @@ ghost use Rattle.tm_base.specs.Memory.{taken_by, after_write, after_failure, aft
 
 use crate::failed::Failed;
 use crate::fault_plan::FaultPlan;
+use crate::gathered::Gathered;
 use crate::sink::Sink;
 use std::alloc::Global;
 use std::marker::Model;
@@ -14,10 +15,9 @@ use std::marker::Model;
 /// where it finds no memory.
 #[derive(Debug, Drop)]
 pub struct MemSink {
-    bytes: Vec<u8>,
+    gathered: Gathered,
     most: usize,
     plan: FaultPlan,
-    lacked: u64,
 }
 
 impl Model for MemSink {
@@ -25,7 +25,7 @@ impl Model for MemSink {
 
     ghost Value = { SinkState };
 
-    ghost view = { λ s. record { written = s.bytes.items; most = s.most; plan = s.plan; lacked = s.lacked } };
+    ghost view = { λ s. record { written = s.gathered.bytes.items; most = s.most; plan = s.plan; lacked = s.gathered.lacked } };
 }
 
 impl MemSink {
@@ -40,10 +40,9 @@ impl MemSink {
         } }
     {
         MemSink {
-            bytes: Vec::new(alloc),
+            gathered: Gathered::new(alloc),
             most,
             plan: FaultPlan::new(failing),
-            lacked: 0,
         }
     }
 
@@ -51,14 +50,14 @@ impl MemSink {
     pub fn bytes(&self) -> &[u8]
         ensures { result.now ≡ self.now.written }
     {
-        &self.bytes
+        &self.gathered.bytes
     }
 
     /// How many of the faults were for want of memory. The count stays at `u64::MAX`.
     pub fn lacked(&self) -> u64
         ensures { result ≡ self.now.lacked }
     {
-        self.lacked
+        self.gathered.lacked
     }
 
     /// The faults so far. The count stays at `u64::MAX`.
@@ -95,13 +94,11 @@ impl Sink for MemSink {
             return Err(Failed);
         }
         let count = from.len().min(self.most.max(1));
-        match self.bytes.extend_from_slice(&from[..count]) {
-            Ok(()) => Ok(count),
-            Err(_) => {
-                self.plan.count_fault();
-                self.lacked = self.lacked.saturating_add(1);
-                Err(Failed)
-            }
+        if self.gathered.append(&from[..count]) {
+            Ok(count)
+        } else {
+            self.plan.count_fault();
+            Err(Failed)
         }
     }
 }

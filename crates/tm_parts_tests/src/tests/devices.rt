@@ -1,6 +1,10 @@
 //! The devices on worked cases.
 
+mod calm;
+mod network;
 mod over_std;
+mod serving;
+mod starting;
 
 use std::alloc::{AllocError, Global};
 use std::test::Fail;
