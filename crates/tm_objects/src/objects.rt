@@ -123,6 +123,15 @@ impl<S: Entrusted> Objects<S> {
         self.live.is_live(name)
     }
 
+    /// The name with the place where its object stands, by which other calls find it at once. Where the name's
+    /// place is not its own, each object is looked at.
+    pub fn placed(&self, name: Name) -> Name
+        requires { IsSome (object_of self.now.live name.id) }
+        ensures { result.id ≡ name.id }
+    {
+        self.live.placed(name)
+    }
+
     /// Adds a hold of a place, and a gift that waits for it. It is refused where
     /// [`MOST_GIFTS`](tm_batch::MOST_GIFTS) gifts wait for the place, or it has [`MOST_HOLDS`] holds
     /// on the object.

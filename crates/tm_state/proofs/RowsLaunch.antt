@@ -89,7 +89,7 @@ module _ {V O R T : Type 0} (kind : Kind V O R T) (opening s : State V O R T) (c
       (λ o. elim (o.id == n.id) as (λ t. (cond t (record o { works = o.works ++ w ∷ [] }) o).id ≡ o.id) [ true ↦ refl | false ↦ refl ]) some
 
   -- the launch is the last of its object and of all, under the next ticket
-  pub launch_row :
+  launch_row :
       (stock : Stock V) (launched : List (Ticket (Pending T))) → h.next_ticket ≤ h.config.last_id → stock ≡ begun n.id h.stock
       → launched ≡ h.launched ++ ticket_for n.id h.next_ticket (record { place = c; task = task; awaits = Start }) ∷ []
       → Row kind s c (Launch n task) (Launched h.next_ticket) (record h { stock = stock; launched = launched; next_ticket = h.next_ticket + 1 })
@@ -114,3 +114,12 @@ module _ {V O R T : Type 0} (kind : Kind V O R T) (opening s : State V O R T) (c
           most = launched_most ticket;
         }),
       )
+
+  -- so it is too where its object is named by an id that is the same
+  pub launch_found :
+      (id : ℕ) (stock : Stock V) (launched : List (Ticket (Pending T))) → id ≡ n.id → h.next_ticket ≤ h.config.last_id → stock ≡ begun id h.stock
+      → launched ≡ h.launched ++ ticket_for id h.next_ticket (record { place = c; task = task; awaits = Start }) ∷ []
+      → Row kind s c (Launch n task) (Launched h.next_ticket) (record h { stock = stock; launched = launched; next_ticket = h.next_ticket + 1 })
+  launch_found id stock launched e room is keeps =
+      launch_row stock launched room (is ∙ ap (λ i. begun i h.stock) e)
+      (keeps ∙ ap (λ i. h.launched ++ ticket_for i h.next_ticket (record { place = c; task = task; awaits = Start }) ∷ []) e)

@@ -26,8 +26,7 @@ impl<S: Entrusted> TrusteeState<S> {
     /// object that is held above, or ends. None where there is no such launch: then each launch that is the first
     /// of its object awaits a reply. `held` says how many objects this trustee holds at each trustee, by their
     /// numbers. The entries that are made are added to `made`. Beside what the task does it
-    /// takes constant time, if its object stands where the launch named it, and a look at each ask; it allocates
-    /// nothing.
+    /// takes constant time, and a look at each ask; it allocates nothing.
     pub fn resume(&mut self, held: &[u32], made: &mut Made<S>) -> Option<Resumed<S>>
         requires { IsResumable S.kind held.now made.old.entries.items self.old }
         ensures none { IfNone result (AllAwait S.kind self.old) }

@@ -64,8 +64,10 @@ impl<S: Entrusted> TrusteeState<S> {
             return Answer::TicketsSpent(task);
         }
         self.tickets += 1;
-        self.objects.begin(name);
-        self.launches.add(to_begin(name, self.tickets, place, task));
+        let found = self.objects.placed(name);
+        self.objects.begin(found);
+        self.launches
+            .add(to_begin(found, self.tickets, place, task));
         Answer::Launched(self.tickets)
     }
 

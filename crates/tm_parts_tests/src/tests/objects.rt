@@ -48,6 +48,13 @@ impl Few {
         Some(self.objects.count(name, place))
     }
 
+    fn placed(&self, name: Name) -> Option<Name> {
+        if !self.objects.is_live(name) {
+            return None;
+        }
+        Some(self.objects.placed(name))
+    }
+
     fn grant(&mut self, name: Name, to: u32) -> Option<bool> {
         if to >= self.places
             || !self.objects.is_live(name)
@@ -236,6 +243,7 @@ fn the_id_alone_names_an_object(rt: HostRuntime) -> Result<(), Fail> {
         place: first.place,
     };
     assert_eq!(rt; few.count(elsewhere, 0), Some(1));
+    assert_eq!(rt; few.placed(elsewhere), Some(second));
     assert_eq!(rt; few.release(first, 0), Some(Left::Dropped));
     let third = few.entrust(1, 3).unwrap_or_default();
     assert_eq!(rt; third.place, first.place);
