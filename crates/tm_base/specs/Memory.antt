@@ -1,6 +1,10 @@
 -- What the devices in memory stand for, and what a call does.
 use Rattle.std.specs.Prelude.{ℕ, List, [], ◌∷◌, ◌++◌, length, drop, min, max}
+use Rattle.std.specs.declared.alloc.Global.{Global}
+use Rattle.std.specs.declared.sync.Arc.{Arc}
+use Rattle.std.specs.declared.sync.Mutex.{Mutex}
 use Rattle.tm_base.specs.Causes.{one_fault_more}
+use Rattle.tm_base.specs.declared.gathered.Gathered.{Gathered}
 use Rattle.tm_base.specs.Plan.{Plan, after_call, after_fault}
 
 -- a source: the bytes still to come, the cuts of the reads to come, and which calls fail
@@ -53,10 +57,11 @@ after_lack sink =
       lacked = one_fault_more sink.lacked;
     }
 
--- a sink whose bytes stand under a lock: the most that a write takes, and which calls fail
+-- a sink whose bytes stand under a lock: the most that a write takes, which calls fail, and the lock
 pub record PostState : Type 0 where
   pub most : ℕ
   pub plan : Plan
+  pub shared : Arc (Mutex Gathered) Global
 
 -- a clock: the readings so far, the readings to come, and the last one, which is 0 at first
 pub record ClockState : Type 0 where

@@ -1,5 +1,6 @@
 -- The parts of the devices over std.
-use Rattle.std.specs.Prelude.{ℕ}
+use Rattle.std.specs.Prelude.{◌≡◌, ℕ}
+use Rattle.tm_base.specs.declared.link.Link.{Link}
 use Rattle.tm_base.specs.declared.std_source.StdSource.{StdSource}
 use Rattle.tm_base.specs.declared.std_sink.StdSink.{StdSink}
 use Rattle.tm_base.specs.declared.system_clock.SystemClock.{SystemClock}
@@ -27,3 +28,7 @@ runtime_of clock = clock.clock
 -- the last good reading of a clock, or 0
 abbrev pub last_reading : {C : Type 0} → SystemClock C → ℕ
 last_reading clock = clock.last
+
+-- a link that nothing was read from or written to: no fault was counted, and no reading taken
+abbrev pub IsFresh : {R T C : Type 0} → Link (StdSource R) (StdSink T) (SystemClock C) → Type 0
+IsFresh link = (source_faults link.source ≡ 0) × (sink_faults link.sink ≡ 0) × (last_reading link.clock ≡ 0)

@@ -29,7 +29,7 @@ impl<R> Model for PostSink<R> {
 
     ghost Value = { PostState };
 
-    ghost view = { λ s. record { most = s.most; plan = s.plan } };
+    ghost view = { λ s. record { most = s.most; plan = s.plan; shared = s.shared } };
 }
 
 impl<R: Drop> PostSink<R> {
@@ -41,10 +41,8 @@ impl<R: Drop> PostSink<R> {
         most: usize,
         failing: Vec<u64>,
     ) -> Result<(PostSink<R>, Post), AllocError>
-        ensures { IfOk result (λ r. r.0 ≡ record {
-          most = most;
-          plan = record { failing = failing.items; calls = 0; faults = 0 };
-        }) }
+        ensures most { IfOk result (λ r. r.0.most ≡ most) }
+        ensures plan { IfOk result (λ r. r.0.plan ≡ record { failing = failing.items; calls = 0; faults = 0 }) }
     {
         let shared = Arc::new(alloc, Mutex::new(Gathered::new(alloc)))?;
         let post = Post {

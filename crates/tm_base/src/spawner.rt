@@ -13,13 +13,21 @@ pub trait Spawner {
     /// Whether the next start fails, whatever the system has.
     ghost refuses: { Self → Type 0 };
 
+    /// What is left once a start was begun.
+    ghost begun: { Self → Self };
+
+    /// What is left once the start that was begun last failed.
+    ghost faulted: { Self → Self };
+
     /// Begins a start, and says whether it may be tried. [`Spawner::start`] calls it once.
     fn begin(&mut self) -> bool
         ensures refused { IsFalse result ↔ refuses self.old }
+        ensures state { self.new ≡ begun self.old }
         ensures no_fault { faults self.new ≡ faults self.old };
 
-    /// Counts a fault: the start that was begun last failed.
+    /// Counts a fault: the start that was begun last failed. [`Spawner::start`] calls it where it hands the work back.
     fn count_fault(&mut self)
+        ensures state { self.new ≡ faulted self.old }
         ensures one_fault { faults self.new ≡ one_fault_more (faults self.old) }
         ensures later { faults self.old ≤ faults self.new };
 
@@ -42,6 +50,10 @@ pub trait Spawner {
         ensures no_fault { OnOk result (faults self.new ≡ faults self.old) }
         ensures one_fault { OnErr result (faults self.new ≡ one_fault_more (faults self.old)) }
         ensures refused { refuses self.old → IsErr result }
+
+        // One start was begun.
+        ensures state { OnOk result (self.new ≡ begun self.old) }
+        ensures failed { OnErr result (self.new ≡ faulted (begun self.old)) }
     {
         if !self.begin() {
             self.count_fault();

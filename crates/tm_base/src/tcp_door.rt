@@ -1,7 +1,8 @@
 //! The door to the network.
-ghost use Rattle.std.specs.Prelude.{◌≡◌, Some, None, IfOk, OnOk, OnErr};
+ghost use Rattle.std.specs.Prelude.{◌≡◌, Some, None, IsNone, IsErr, IfOk, OnOk, OnErr};
 ghost use Rattle.tm_base.specs.Causes.{HasCause, one_fault_more};
 ghost use Rattle.tm_base.specs.Listening.{IsBoundTo, one_link_more};
+ghost use Rattle.tm_base.specs.StdEdge.{IsFresh};
 
 use crate::failed::Failed;
 use crate::link::Link;
@@ -31,11 +32,15 @@ pub struct TcpDoor<N> {
 }
 
 impl<N> Model for TcpDoor<N> {
+    ghost use Rattle.std.specs.Prelude.{◌↔◌, IsSome};
     ghost use Rattle.tm_base.specs.Listening.{DoorState};
 
     ghost Value = { DoorState };
 
     ghost view = { λ d. record { port = d.port; accepted = d.accepted; faults = d.faults } };
+
+    // It listens where it is bound to a port, and only there.
+    ghost invariant = { λ d. IsSome d.port ↔ IsSome d.listener };
 }
 
 impl<N> TcpDoor<N> {
@@ -107,7 +112,8 @@ impl<
         }
     }
 
-    /// It waits for a peer. A peer that is gone again before it is handed out is passed over.
+    /// It waits for a peer. A peer that is gone again before it is handed out is passed over. A door that is bound to no
+    /// port fails at once.
     fn accept<R: Wait>(&mut self, _rt: &R) -> Result<TcpLink<N>, Failed>
         ensures port { self.new.port ≡ self.old.port }
         ensures accepted { OnOk result (self.new.accepted ≡ one_link_more self.old.accepted) }
@@ -115,8 +121,10 @@ impl<
         ensures cause { HasCause self.old.faults self.new.faults result }
         ensures no_fault { OnOk result (self.new.faults ≡ self.old.faults) }
 
-        // A call that fails counts one fault.
+        // A link is fresh, and a call that fails counts one fault.
+        ensures fresh { IfOk result IsFresh }
         ensures one_fault { OnErr result (self.new.faults ≡ one_fault_more self.old.faults) }
+        ensures unbound { IsNone self.old.port → IsErr result }
     {
         match next_of(&self.listener) {
             Some((reads, writes)) => {
@@ -146,7 +154,9 @@ fn listen<N: Net<Stream = TcpStream, Listener = TcpListener>>(
 }
 
 // The next connection, as its two sides.
-fn next_of(listener: &Option<TcpListener>) -> Option<(TcpStream, TcpStream)> {
+fn next_of(listener: &Option<TcpListener>) -> Option<(TcpStream, TcpStream)>
+    ensures { IsNone listener.now → IsNone result }
+{
     let Some(listener) = listener else {
         return None;
     };
