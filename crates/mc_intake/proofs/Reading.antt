@@ -73,7 +73,7 @@ unfed_count i le most room =
     let rest = length-drop i.from i.buffer.items in
     length-take-le (i.to - i.from) (drop i.from i.buffer.items) (omega (arith, rest, le, most, room))
 
-nothing_unfed : (i : Intake) → i.to ≤ i.from → unfed i ≡ []
+pub nothing_unfed : (i : Intake) → i.to ≤ i.from → unfed i ≡ []
 nothing_unfed i le = let none : i.to - i.from ≡ 0 = omega (arith, le) in ap (λ k. take k (drop i.from i.buffer.items)) none
 
 unfinished_more : (u v : Progress) (n : Next) → n ≡ next.More → Comes u n v → IsUnfinished u
@@ -198,3 +198,11 @@ some_came limit text into messages i came fed is fed_is all some most room =
     let front = length-take limit text in
     let left = is.left in
     (omega (arith, many, some), omega (arith, many, most, room), omega (arith, many, joined, front, left, fed_is, all, some))
+
+-- what is still to be fed is nothing exactly where the two ends meet
+pub ends_meet : (limit : ℕ) (text : List ℕ) (messages : List Message) (i : Intake) → IsIntake limit text messages i → unfed i ≡ [] → i.from ≡ i.to
+ends_meet limit text messages i is none =
+    let count = unfed_count i is.from_to is.to_end is.room in
+    let empty = ap length none in
+    let le = is.from_to in
+    omega (arith, count, empty, le)

@@ -1,7 +1,8 @@
 //! The messages of a source, read as they come, at most its first bytes.
-ghost use Rattle.std.specs.Prelude.{◌≡◌, ◌↔◌, ℕ, min, [], List, IsTrue, IfOk, OnOk, OnErr};
+ghost use Rattle.std.specs.Prelude.{◌≡◌, ◌↔◌, ℕ, min, [], List, IsTrue, true, Ok, IfOk, OnOk, OnErr};
 ghost use Rattle.tm_base.specs.Causes.{HasCause};
 ghost use Rattle.tm_base.specs.Visible.{Stays};
+ghost use Rattle.mc_grammar.specs.declared.reader.Next.{Next};
 ghost use Rattle.mc_model.specs.declared.message.Message.{Message};
 ghost use Rattle.mc_intake.specs.Intake.{unfed, IsIntake, Takes, HasRead};
 
@@ -69,6 +70,8 @@ impl Intake {
         requires { (limit : ℕ) × (text : List ℕ) × (messages : List Message) × IsIntake limit text messages self.old }
         ensures next { IfOk result (λ next. (limit : ℕ) (text : List ℕ) (messages : List Message) → IsIntake limit text messages self.old → Takes limit text messages next self.new) }
         ensures left { self.new.left ≡ self.old.left }
+        // Each message has a byte at least, so where all is fed there is none.
+        ensures fed { unfed self.old ≡ [] → (result ≡ Ok Next.More) × (self.new ≡ self.old) }
         ensures err { OnErr result (self.new ≡ self.old) }
     {
         if self.from == self.to {
@@ -87,6 +90,9 @@ impl Intake {
             → HasRead limit text messages came (A.left source.old) (A.left source.new) self.new) }
         ensures stays { OnErr result (Stays (A.left source.old) (A.left source.new)) }
         ensures kept { OnErr result ((limit : ℕ) (text : List ℕ) (messages : List Message) → IsIntake limit text messages self.old → IsIntake limit text messages self.new) }
+        // Where nothing came, all is fed still.
+        ensures end { result ≡ Ok Came.End → unfed self.new ≡ [] }
+        ensures none { OnErr result (unfed self.new ≡ []) }
         ensures cause { HasCause (A.faults source.old) (A.faults source.new) result }
         ensures no_fault { OnOk result (A.faults source.new ≡ A.faults source.old) }
     {
@@ -102,6 +108,14 @@ impl Intake {
         } else {
             Came::Some
         })
+    }
+
+    /// Whether all that was read, as far as it is within the limit, is fed.
+    pub fn is_fed(&self) -> bool
+        requires { (limit : ℕ) × (text : List ℕ) × (messages : List Message) × IsIntake limit text messages self.now }
+        ensures { (result ≡ true) ↔ (unfed self.now ≡ []) }
+    {
+        if self.from < self.to { false } else { true }
     }
 
     /// Whether no byte of a further message was fed.

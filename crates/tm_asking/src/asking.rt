@@ -4,7 +4,9 @@ ghost use Rattle.tm_batch.specs.declared.message.Request.TheVariants.{Apply};
 ghost use Rattle.tm_model.specs.State.{State};
 ghost use Rattle.tm_pair.specs.Views.{ClientView};
 ghost use Rattle.tm_client.specs.Asking.{HasAsked, HasRoom, IsFull};
+ghost use Rattle.tm_client.specs.declared.answers.Got.{Got};
 ghost use Rattle.tm_client.specs.Clients.{IsClient};
+ghost use Rattle.tm_client.specs.Taking.{HasTaken};
 ghost use Rattle.tm_asking.specs.Questions.{Question};
 ghost use Rattle.tm_asking.specs.Turning.{IsAtTables};
 ghost use Rattle.tm_asking.specs.Asking.{operation, sides_of, IsAsking, AreReplied, AreBegun, AllOpen, NoneCounts, MayAskBy};
@@ -81,6 +83,7 @@ impl<S: FitsBatches> Asking<S> {
         ensures asked { self.new.asked ≡ self.old.asked }
         ensures held { client.new.books.held ≡ client.old.books.held }
         ensures took { (result ≡ true) → client.old.books.arrived.items ≢ [] }
+        ensures next { (result ≡ true) → (number : ℕ) × (got : Got S S.Op S.Reply S.Task) × HasTaken number got client.old.books client.new.books }
         ensures none { (result ≡ false) → (client.old.books.arrived.items ≡ []) × (client.new ≡ client.old) × (self.new ≡ self.old) }
         ensures client { (openings : ℕ → State S S.Op S.Reply S.Task) → IsClient P.theory.client_view openings client.old.books → IsClient P.theory.client_view openings client.new.books }
     {

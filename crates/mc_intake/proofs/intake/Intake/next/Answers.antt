@@ -1,7 +1,7 @@
 use Rattle.std.proofs.Common.{◌≤◌, ◌<◌, length, take, drop, ◌-◌, refl, subst}
 use Rattle.mc_grammar.specs.Progress.{IsReady}
 use Rattle.mc_grammar.specs.Reading.{ReadsOn}
-use Rattle.mc_intake.proofs.Reading.{taking}
+use Rattle.mc_intake.proofs.Reading.{taking, ends_meet}
 use Rattle.mc_intake.proofs.intake.Intake.next.Goals as goal
 
 pub returns-clause-next : goal.returns-clause-next
@@ -12,3 +12,9 @@ returns-clause-next c = λ limit text messages is.
     let within = subst (λ l. n ≤ length (take (i.to - i.from) (drop i.from l))) c.deref.ensures.value c.in_ok-taken.ensures.within in
     let through = subst (λ l. n < length (take (i.to - i.from) (drop i.from l)) → IsReady c.feed.new.self) c.deref.ensures.value c.in_ok-taken.ensures.through in
     taking limit text messages i _ n c.feed.new.self c.next.result is refl refl refl refl within on c.next.ensures.comes c.next.ensures.reads through
+
+pub returns-clause-fed : goal.returns-clause-fed
+returns-clause-fed c = λ none.
+    let (limit, text, messages, is) = c.requires in
+    let meet = ends_meet limit text messages c.args.self.now is none in
+    absurd (c.if-self.false meet)

@@ -30,3 +30,6 @@ returns-clause-asks g c = λ was asked is.
     let second = c.in-Replied.is in
     let same : own ≡ c.in-Replied.reply = cc in
     subst (λ r. IsAsking view was asked (slice_set replies k r) new) same (taking_goes_on view k c.in-Some.got was asked replies old new is c.in-Some.ensures.next)
+
+pub returns-clause-next : goal.returns-clause-next
+returns-clause-next g c = λ _. (c.in-Some.number, c.in-Some.got, c.in-Some.ensures.next)
