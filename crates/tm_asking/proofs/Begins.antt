@@ -6,7 +6,7 @@ use Rattle.std.specs.declared.option.Option.TheVariants.{Some}
 use Rattle.std.proofs.lemmas.Option.{slice_get_within}
 use Rattle.tm_seq.specs.Kind.{Kind}
 use Rattle.tm_model.specs.State.{State}
-use Rattle.tm_model.specs.Holds.{has_bye, answers_in}
+use Rattle.tm_model.specs.Holds.{has_bye}
 use Rattle.tm_model.specs.Ran.{ran}
 use Rattle.tm_pair.specs.Theory.{Theory, TheoryLaws}
 use Rattle.tm_client.specs.declared.lane.Lane.{Lane}
@@ -16,7 +16,7 @@ use Rattle.tm_client.specs.Clients.{come_of}
 use Rattle.tm_client.proofs.Arriving.{no_bye_asks, bye_behind}
 use Rattle.tm_client.proofs.Elements.{element_at}
 use Rattle.tm_client.proofs.Living.{sent_is, answers_are}
-use Rattle.tm_asking.specs.Asking.{IsApply, IsReply, IsAskedAt, IsAsking, side_in, sides_of, NoneCounts, AllOpen}
+use Rattle.tm_asking.specs.Asking.{HasReply, IsCome, IsTold, IsAskedAt, IsAsking, side_in, sides_of, NoneCounts, AllOpen}
 use Rattle.tm_asking.specs.Turning.{IsAtTables}
 use Rattle.tm_asking.proofs.Replied.{IsLaneAtRest, lane_at_rest}
 
@@ -26,7 +26,7 @@ is_false false never = refl
 
 module _ {V O R T D Table Owner : Type 0} (theory : Theory V O R T Table D Owner) (kind : Kind V O R T) (laws : TheoryLaws theory kind)
     (openings : ℕ → State V O R T) (tables : List Table) (books : Books V ℕ D O R T) (home : IsAtTables theory openings tables books)
-    (none : NoneCounts books) (open_all : AllOpen books) (replies : List R) where
+    (none : NoneCounts books) (open_all : AllOpen books) (missing : R) (replies : List R) where
   module _ (t : ℕ) (lane : Lane V ℕ D O R T) (there : slice_get books.lanes.items t ≡ Some lane) where
     is : IsLane theory.client_view (openings t) books.number (come_of t books.arrived.items) lane
     is = home.client.lanes t lane there
@@ -51,7 +51,7 @@ module _ {V O R T D Table Owner : Type 0} (theory : Theory V O R T Table D Owner
     nothing_out : out_requests (theory.client_view lane.side).out ≡ []
     nothing_out = sym (no_bye_asks (out_requests (theory.client_view lane.side).out) no_bye) ∙ rest.out
 
-    begins_at : IsAskedAt theory.client_view t (theory.client_view lane.side) [] replies books.arrived.items lane
+    begins_at : IsAskedAt theory.client_view missing t (theory.client_view lane.side) [] replies books.arrived.items lane
     begins_at =
         let within = slice_get_within books.lanes.items t lane there in
         let many = home.as_many in
@@ -65,26 +65,27 @@ module _ {V O R T D Table Owner : Type 0} (theory : Theory V O R T Table D Owner
               entries = entries;
             };
             place = refl;
-            seen = ([], sym (append-nil _));
+            grown = [];
+            seen = sym (append-nil _);
             runs = runs;
             entries = entries;
-            out_apply = subst (λ l. AllByRecursion IsApply l) (sym nothing_out) tt;
+            out_reply = subst (λ l. AllByRecursion HasReply l) (sym nothing_out) tt;
           };
           is_open = open_all t lane there;
-          unlaunched = rest.launched;
           sent = ap (λ l. (theory.client_view lane.side).sent ++ l) rest.waits;
-          waits_apply = subst (λ l. AllByRecursion IsApply l) (sym rest.waits) tt;
-          taken = [];
-          numbers = ap (λ l. map (λ c. c.0) l ++ map (λ w. w.after) lane.afters.items) rest.come ∙ ap (λ ws. map (λ w. w.after) ws) rest.afters;
-          got = sym (ap (λ l. answers_in (theory.client_view lane.side).got ++ map (λ c. c.1) l) rest.come ∙ append-nil _);
-          noted = tt;
-          come = subst (λ l. AllByRecursion IsReply l) (sym rest.come) tt;
+          waits_reply = subst (λ l. AllByRecursion HasReply l) (sym rest.waits) tt;
+          told = [];
+          numbers = ap (λ ws. map (λ w. w.after) ws) rest.afters;
+          got = sym (append-nil _);
+          dealt = tt;
+          come = subst (λ cs. AllByRecursion (IsCome [] []) cs) (sym rest.come) tt;
+          unfinished = subst (λ ls. AllByRecursion (IsTold {V = V} {O = O} {R = R} {T = T} []) ls) (sym rest.launched) tt;
         }
 
-  pub begins : IsAsking theory.client_view (sides_of theory.client_view books) [] replies books
+  pub begins : IsAsking theory.client_view missing (sides_of theory.client_view books) [] replies books
   begins = record {
     few = omega arith;
     known = tt;
     lanes = λ t lane there.
-        subst (λ o. IsAskedAt theory.client_view t (side_in theory.client_view t o) [] replies books.arrived.items lane) (sym there) (begins_at t lane there);
+        subst (λ o. IsAskedAt theory.client_view missing t (side_in theory.client_view t o) [] replies books.arrived.items lane) (sym there) (begins_at t lane there);
   }

@@ -1,35 +1,20 @@
 -- The questions to one trustee among all, and their numbers.
 use Rattle.std.proofs.Common.{◌≡◌, ◌≢◌, ℕ, zero, suc, ◌+◌, ◌<◌, ◌≤◌, ◌⊎◌, inl, inr, true, false, cond, List, [], ◌∷◌, ◌++◌, length, map, refl, sym, ◌∙◌, ap, subst, arith, eq-eqb, ne_eqb}
 use Rattle.std.specs.Prelude.{◌==◌, Bool, slice_get, slice_set}
-use Rattle.std.specs.List.{AllByRecursion}
+use Rattle.std.specs.List.{AllByRecursion, Contains}
 use Rattle.std.proofs.lemmas.Bool.{cases_eq}
+use Rattle.std.proofs.lemmas.List.Elements.{Contains-append_left}
 use Rattle.tm_batch.specs.declared.message.Answer.{Answer}
+use Rattle.tm_model.specs.declared.entry.Entry.{Entry}
+use Rattle.tm_client.proofs.Elements.{contained}
 use Rattle.tm_asking.specs.Questions.{Question, requests_at}
 use Rattle.tm_asking.specs.Asking.{numbers_at, IsNoted}
+use Rattle.tm_asking.proofs.Among.{none_among, among_cases, all_among, both_parts, map_among}
 
 module _ {X : Type 0} where
   cond_joined : (b : Bool) (x : X) (xs ys : List X) → cond b (x ∷ (xs ++ ys)) (xs ++ ys) ≡ cond b (x ∷ xs) xs ++ ys
   cond_joined true x xs ys = refl
   cond_joined false x xs ys = refl
-
-  -- x is one of a list
-  abbrev pub IsOneOf : X → List X → Type 0
-  IsOneOf x [] = ⊥
-  IsOneOf x (y ∷ ys) = (x ≡ y) ⊎ IsOneOf x ys
-
-  pub one_in_front : (x : X) (xs ys : List X) → IsOneOf x xs → IsOneOf x (xs ++ ys)
-  one_in_front x [] ys h = absurd h
-  one_in_front x (y ∷ xs) ys (inl e) = inl e
-  one_in_front x (y ∷ xs) ys (inr h) = inr (one_in_front x xs ys h)
-
-  pub one_behind : (x : X) (xs ys : List X) → IsOneOf x ys → IsOneOf x (xs ++ ys)
-  one_behind x [] ys h = h
-  one_behind x (y ∷ xs) ys h = inr (one_behind x xs ys h)
-
-  -- each of the first of a list is one of it
-  pub each_in_front : (xs ys zs : List X) → ((x : X) → IsOneOf x (xs ++ ys) → IsOneOf x zs) → AllByRecursion (λ x. IsOneOf x zs) xs
-  each_in_front [] ys zs each = tt
-  each_in_front (x ∷ xs) ys zs each = (each x (inl refl), each_in_front xs ys zs (λ y h. each y (inr h)))
 
   pub read_other : (xs : List X) (i k : ℕ) (v : X) → k ≢ i → slice_get (slice_set xs i v) k ≡ slice_get xs k
   read_other [] i k v ne = refl
@@ -38,10 +23,14 @@ module _ {X : Type 0} where
   read_other (x ∷ xs) (suc i) zero v ne = refl
   read_other (x ∷ xs) (suc i) (suc k) v ne = read_other xs i k v (λ e. ne (ap (λ n. suc n) e))
 
--- what holds of all that a function makes holds of what it makes them of
-pub all_under : {X Y : Type 0} (P : Y → Type 0) (f : X → Y) (xs : List X) → AllByRecursion P (map f xs) → AllByRecursion (λ x. P (f x)) xs
-all_under P f [] h = tt
-all_under P f (x ∷ xs) h = (h.0, all_under P f xs h.1)
+-- numbers that rise
+abbrev IsRising : List ℕ → Type 0
+IsRising [] = Unit {0}
+IsRising (n ∷ ns) = AllByRecursion (λ m. n < m) ns × IsRising ns
+
+rising_front : (xs ys : List ℕ) → IsRising (xs ++ ys) → IsRising xs
+rising_front [] ys h = tt
+rising_front (x ∷ xs) ys h = ((both_parts (λ m. x < m) xs ys h.0).0, rising_front xs ys h.1)
 
 module _ {V O R T : Type 0} where
   pub requests_here : (t : ℕ) (q : Question V O R T) (qs : List (Question V O R T)) → q.trustee ≡ t → requests_at t (q ∷ qs) ≡ q.request ∷ requests_at t qs
@@ -73,14 +62,16 @@ module _ {V O R T : Type 0} where
   IsNumberOf t n [] k = ⊥
   IsNumberOf t n (q ∷ qs) k = ((k ≡ n) × (q.trustee ≡ t)) ⊎ IsNumberOf t (n + 1) qs k
 
-  pub number_is : (t n : ℕ) (qs : List (Question V O R T)) (k : ℕ) → IsOneOf k (numbers_at t n qs) → IsNumberOf t n qs k
-  number_is t n [] k h = absurd h
+  pub number_is : (t n : ℕ) (qs : List (Question V O R T)) (k : ℕ) → Contains (numbers_at t n qs) k → IsNumberOf t n qs k
+  number_is t n [] k h = none_among k h
   number_is t n (q ∷ qs) k h =
       elim (cases_eq q.trustee t) [
         | inl e ↦
-            let both = subst (λ xs. IsOneOf k xs) (numbers_here t n q qs e) h in
-            elim both [ inl is ↦ inl (is, e) | inr later ↦ inr (number_is t (n + 1) qs k later) ]
-        | inr ne ↦ inr (number_is t (n + 1) qs k (subst (λ xs. IsOneOf k xs) (numbers_other t n q qs ne) h))
+            elim (among_cases n (numbers_at t (n + 1) qs) k (subst (λ xs. Contains xs k) (numbers_here t n q qs e) h)) [
+              | inl is ↦ inl (is, e)
+              | inr later ↦ inr (number_is t (n + 1) qs k later)
+            ]
+        | inr ne ↦ inr (number_is t (n + 1) qs k (subst (λ xs. Contains xs k) (numbers_other t n q qs ne) h))
       ]
 
   pub number_from : (t n : ℕ) (qs : List (Question V O R T)) (k : ℕ) → IsNumberOf t n qs k → n ≤ k
@@ -101,34 +92,54 @@ module _ {V O R T : Type 0} where
   number_once t u n (q ∷ qs) k (inr h) (inl (also, f)) = absurd (let from = number_from t (n + 1) qs k h in omega (arith, also, from))
   number_once t u n (q ∷ qs) k (inr h) (inr i) = number_once t u (n + 1) qs k h i
 
-  one_is_number : (t n : ℕ) (qs : List (Question V O R T)) (before after : List ℕ) (k : ℕ) → numbers_at t n qs ≡ before ++ k ∷ after → n ≤ k
-  one_is_number t n qs before after k e =
-      number_from t n qs k (number_is t n qs k (subst (λ xs. IsOneOf k xs) (sym e) (one_behind k before (k ∷ after) (inl refl))))
-
-  rising_here : (t n : ℕ) (qs : List (Question V O R T)) (before after : List ℕ) (k : ℕ)
-      → ((bs : List ℕ) → numbers_at t (n + 1) qs ≡ bs ++ k ∷ after → AllByRecursion (λ j. j < k) bs)
-      → n ∷ numbers_at t (n + 1) qs ≡ before ++ k ∷ after → AllByRecursion (λ j. j < k) before
-  rising_here t n qs [] after k later e = tt
-  rising_here t n qs (b ∷ before) after k later e =
-      let first : n ≡ b = cc in
-      let rest : numbers_at t (n + 1) qs ≡ before ++ k ∷ after = cc in
-      let from = one_is_number t (n + 1) qs before after k rest in
-      (omega (arith, first, from), later before rest)
-
-  -- numbers rise
-  pub numbers_rise : (t n : ℕ) (qs : List (Question V O R T)) (before after : List ℕ) (k : ℕ) → numbers_at t n qs ≡ before ++ k ∷ after
-      → AllByRecursion (λ j. j < k) before
-  numbers_rise t n [] [] after k e = tt
-  numbers_rise t n [] (b ∷ before) after k e = absurd cc
-  numbers_rise t n (q ∷ qs) before after k e =
+  -- the numbers of the questions to a trustee rise
+  numbers_rise : (t n : ℕ) (qs : List (Question V O R T)) → IsRising (numbers_at t n qs)
+  numbers_rise t n [] = tt
+  numbers_rise t n (q ∷ qs) =
+      let rest = numbers_rise t (n + 1) qs in
+      let later : AllByRecursion (λ m. n < m) (numbers_at t (n + 1) qs) =
+      all_among (λ m. n < m) (numbers_at t (n + 1) qs) (λ m has. let from = number_from t (n + 1) qs m (number_is t (n + 1) qs m has) in omega (arith, from)) in
       elim (cases_eq q.trustee t) [
-        | inl is ↦ rising_here t n qs before after k (λ bs later. numbers_rise t (n + 1) qs bs after k later) (sym (numbers_here t n q qs is) ∙ e)
-        | inr ne ↦ numbers_rise t (n + 1) qs before after k (sym (numbers_other t n q qs ne) ∙ e)
+        | inl e ↦ subst IsRising (sym (numbers_here t n q qs e)) (later, rest)
+        | inr ne ↦ subst IsRising (sym (numbers_other t n q qs ne)) rest
       ]
 
+  one_answer_in : (told : List (ℕ × Answer V O R T)) (k : ℕ) (a b : Answer V O R T) → IsRising (map (λ c. c.0) told) → Contains told (k, a) → Contains told (k, b)
+      → a ≡ b
+  one_answer_in [] k a b rising one other = absurd (none_among (k, a) one)
+  one_answer_in (c ∷ told) k a b rising one other =
+      let behind : (x : Answer V O R T) → Contains told (k, x) → c.0 < k =
+      λ x has. contained (λ m. c.0 < m) (map (λ c. c.0) told) k rising.0 (map_among (λ c. c.0) told (k, x) has) in
+      elim (among_cases c told (k, a) one) [
+        | inl e ↦
+            elim (among_cases c told (k, b) other) [
+              | inl f ↦ ap (λ c. c.1) (e ∙ sym f)
+              | inr later ↦ absurd (let same : k ≡ c.0 = ap (λ c. c.0) e in let less = behind b later in omega (arith, same, less))
+            ]
+        | inr sooner ↦
+            elim (among_cases c told (k, b) other) [
+              | inl f ↦ absurd (let same : k ≡ c.0 = ap (λ c. c.0) f in let less = behind a sooner in omega (arith, same, less))
+              | inr later ↦ one_answer_in told k a b rising.1 sooner later
+            ]
+      ]
+
+  -- of the answers that came to a trustee's questions one is that of each number
+  pub one_answer :
+      (t : ℕ) (qs : List (Question V O R T)) (told : List (ℕ × Answer V O R T)) (rest : List ℕ) (k : ℕ) (a b : Answer V O R T)
+      → map (λ c. c.0) told ++ rest ≡ numbers_at t 0 qs → Contains told (k, a) → Contains told (k, b) → a ≡ b
+  one_answer t qs told rest k a b numbers one other =
+      one_answer_in told k a b (rising_front (map (λ c. c.0) told) rest (subst IsRising (sym numbers) (numbers_rise t 0 qs))) one other
+
+  -- and each is that of the number of a question to the trustee
+  pub told_number :
+      (t : ℕ) (qs : List (Question V O R T)) (told : List (ℕ × Answer V O R T)) (rest : List ℕ) (c : ℕ × Answer V O R T)
+      → map (λ c. c.0) told ++ rest ≡ numbers_at t 0 qs → Contains told c → IsNumberOf t 0 qs c.0
+  told_number t qs told rest c numbers has =
+      number_is t 0 qs c.0
+      (subst (λ xs. Contains xs c.0) numbers (Contains-append_left (map (λ c. c.0) told) rest c.0 (map_among (λ c. c.0) told c has)))
+
   -- what is noted stays so where another number is noted
-  pub noted_other : (replies : List R) (k : ℕ) (r : R) (taken : List (ℕ × Answer V O R T)) → AllByRecursion (λ c. c.0 ≢ k) taken
-      → AllByRecursion (IsNoted replies) taken → AllByRecursion (IsNoted (slice_set replies k r)) taken
-  noted_other replies k r [] ne h = tt
-  noted_other replies k r (c ∷ taken) ne h =
-      let (reply, is, there) = h.0 in ((reply, is, read_other replies k c.0 r ne.0 ∙ there), noted_other replies k r taken ne.1 h.1)
+  pub noted_other :
+      (missing : R) (log : List (Entry V O R T)) (replies : List R) (k : ℕ) (r : R) (c : ℕ × Answer V O R T) → c.0 ≢ k → IsNoted missing log replies c
+      → IsNoted missing log (slice_set replies k r) c
+  noted_other missing log replies k r c ne (reply, there, is) = (reply, read_other replies k c.0 r ne ∙ there, is)

@@ -5,7 +5,6 @@ use Rattle.std.specs.List.{AllByRecursion}
 use Rattle.std.specs.declared.option.Option.TheVariants.{Some}
 use Rattle.std.proofs.lemmas.List.{map-append}
 use Rattle.std.proofs.lemmas.Option.{slice_get_within}
-use Rattle.tm_batch.specs.declared.message.Request.TheVariants.{Apply}
 use Rattle.tm_model.specs.Holds.{answers_in}
 use Rattle.tm_core.proofs.CallerLemmas.{all-append, found_both}
 use Rattle.tm_pair.specs.Views.{ClientView}
@@ -13,14 +12,15 @@ use Rattle.tm_client.specs.declared.lane.Lane.{Lane}
 use Rattle.tm_client.specs.declared.trust.Trust.{Trust}
 use Rattle.tm_client.specs.declared.answers.Arrival.{Arrival}
 use Rattle.tm_client.specs.declared.books.Books.{Books}
-use Rattle.tm_client.specs.Lanes.{HasAccepted}
+use Rattle.tm_client.specs.Lanes.{name_of, HasAccepted}
 use Rattle.tm_client.specs.declared.answers.Why.{Why}
 use Rattle.tm_client.specs.declared.answers.Why.TheVariants.{NotHeld, WindowFull, Closed, TrustsFull, NoClient}
 use Rattle.tm_client.specs.Asking.{IsFull, ApplyWhy, HasAsked}
 use Rattle.tm_client.proofs.Elements.{set_cases}
 use Rattle.tm_asking.specs.Questions.{Question, requests_at}
-use Rattle.tm_asking.specs.Asking.{operation, numbers_at, IsApply, come_at, IsSideAsked, IsAskedAt, IsAsking, MayAskBy}
+use Rattle.tm_asking.specs.Asking.{numbers_at, untaken_at, HasReply, IsDealt, IsTold, IsAskedAt, IsAsking, MayAskBy}
 use Rattle.tm_asking.proofs.Dealing.{requests_here, requests_other, requests_more, numbers_here, numbers_other, numbers_more}
+use Rattle.tm_asking.proofs.Sides.{same_side}
 
 module _ {V O R T : Type 0} where
   one_request : (t : ℕ) (qs : List (Question V O R T)) (q : Question V O R T) → q.trustee ≡ t → requests_at t (qs ++ q ∷ []) ≡ requests_at t qs ++ q.request ∷ []
@@ -38,69 +38,70 @@ module _ {V O R T : Type 0} where
   no_number t qs q ne =
       numbers_more t 0 qs (q ∷ []) ∙ ap (λ xs. numbers_at t 0 qs ++ xs) (numbers_other t (0 + length qs) q [] ne) ∙ append-nil (numbers_at t 0 qs)
 
-module _ {V O R T D : Type 0} (view : D → ClientView V O R T) where
+module _ {V O R T D : Type 0} (view : D → ClientView V O R T) (missing : R) where
   asked_here :
       (t n : ℕ) (was : ClientView V O R T) (asked : List (Question V O R T)) (replies : List R) (arrived : List (Arrival V ℕ O R T))
-      (lane becomes : Lane V ℕ D O R T) (trust : Trust) (op : O) → IsAskedAt view t was asked replies arrived lane
-      → HasAccepted (Apply trust.name op) n lane becomes → trust.trustee ≡ t → n ≡ length asked
-      → IsAskedAt view t was (asked ++ operation trust op ∷ []) replies arrived becomes
-  asked_here t n was asked replies arrived lane becomes trust op a h is many = record {
-    side = subst (λ s. IsSideAsked was (view s)) (sym h.side) a.side;
-    is_open = h.closing ∙ a.is_open;
-    unlaunched = ap (λ l. l.items) h.launched ∙ a.unlaunched;
-    sent =
-        ap (λ s. (view s).sent ++ becomes.waits.items) h.side ∙ ap (λ ws. (view lane.side).sent ++ ws) h.waits
-        ∙ sym (append_assoc (view lane.side).sent lane.waits.items (Apply trust.name op ∷ [])) ∙ ap (λ xs. xs ++ Apply trust.name op ∷ []) a.sent
-        ∙ append_assoc was.sent (requests_at t asked) (Apply trust.name op ∷ []) ∙ ap (λ xs. was.sent ++ xs) (sym (one_request t asked (operation trust op) is));
-    waits_apply = subst (λ ws. AllByRecursion IsApply ws) (sym h.waits) (all-append IsApply lane.waits.items (Apply trust.name op ∷ []) a.waits_apply (tt, tt));
-    taken = a.taken;
-    numbers =
-        ap (λ ws. map (λ c. c.0) (a.taken ++ come_at t arrived) ++ map (λ w. w.after) ws) h.afters
-        ∙ ap (λ xs. map (λ c. c.0) (a.taken ++ come_at t arrived) ++ xs) (map-append (λ w. w.after) lane.afters.items ((record { after = n; name = trust.name }) ∷ []))
-        ∙ sym (append_assoc (map (λ c. c.0) (a.taken ++ come_at t arrived)) (map (λ w. w.after) lane.afters.items) (n ∷ []))
-        ∙ ap (λ xs. xs ++ n ∷ []) a.numbers ∙ sym (one_number t n asked (operation trust op) is many);
-    got = ap (λ s. answers_in (view s).got) h.side ∙ a.got;
-    noted = a.noted;
-    come = a.come;
-  }
+      (lane becomes : Lane V ℕ D O R T) (q : Question V O R T) → IsAskedAt view missing t was asked replies arrived lane
+      → HasReply q.request → HasAccepted q.request n lane becomes → q.trustee ≡ t → n ≡ length asked
+      → IsAskedAt view missing t was (asked ++ q ∷ []) replies arrived becomes
+  asked_here t n was asked replies arrived lane becomes q a own h is many =
+      let launched : becomes.launched.items ≡ lane.launched.items = ap (λ l. l.items) h.launched in record {
+        side = same_side was (view lane.side) (view becomes.side) (ap view h.side) a.side;
+        is_open = h.closing ∙ a.is_open;
+        sent =
+            ap (λ s. (view s).sent ++ becomes.waits.items) h.side ∙ ap (λ ws. (view lane.side).sent ++ ws) h.waits
+            ∙ sym (append_assoc (view lane.side).sent lane.waits.items (q.request ∷ [])) ∙ ap (λ xs. xs ++ q.request ∷ []) a.sent
+            ∙ append_assoc was.sent (requests_at t asked) (q.request ∷ []) ∙ ap (λ xs. was.sent ++ xs) (sym (one_request t asked q is));
+        waits_reply = subst (λ ws. AllByRecursion HasReply ws) (sym h.waits) (all-append HasReply lane.waits.items (q.request ∷ []) a.waits_reply (own, tt));
+        told = a.told;
+        numbers =
+            ap (λ ws. map (λ c. c.0) a.told ++ map (λ w. w.after) ws) h.afters
+            ∙ ap (λ xs. map (λ c. c.0) a.told ++ xs) (map-append (λ w. w.after) lane.afters.items ((record { after = n; name = name_of q.request }) ∷ []))
+            ∙ sym (append_assoc (map (λ c. c.0) a.told) (map (λ w. w.after) lane.afters.items) (n ∷ []))
+            ∙ ap (λ xs. xs ++ n ∷ []) a.numbers ∙ sym (one_number t n asked q is many);
+        got = ap (λ s. answers_in (view s).got) h.side ∙ a.got;
+        dealt = subst (λ ls. AllByRecursion (IsDealt missing a.side.grown replies (untaken_at t arrived ls)) a.told) (sym launched) a.dealt;
+        come = a.come;
+        unfinished = subst (λ ls. AllByRecursion (IsTold a.told) ls) (sym launched) a.unfinished;
+      }
 
   asked_elsewhere :
       (t : ℕ) (was : ClientView V O R T) (asked : List (Question V O R T)) (replies : List R) (arrived : List (Arrival V ℕ O R T))
-      (lane : Lane V ℕ D O R T) (q : Question V O R T) → IsAskedAt view t was asked replies arrived lane → q.trustee ≢ t
-      → IsAskedAt view t was (asked ++ q ∷ []) replies arrived lane
+      (lane : Lane V ℕ D O R T) (q : Question V O R T) → IsAskedAt view missing t was asked replies arrived lane → q.trustee ≢ t
+      → IsAskedAt view missing t was (asked ++ q ∷ []) replies arrived lane
   asked_elsewhere t was asked replies arrived lane q a ne = record {
     side = a.side;
     is_open = a.is_open;
-    unlaunched = a.unlaunched;
     sent = a.sent ∙ ap (λ xs. was.sent ++ xs) (sym (no_request t asked q ne));
-    waits_apply = a.waits_apply;
-    taken = a.taken;
+    waits_reply = a.waits_reply;
+    told = a.told;
     numbers = a.numbers ∙ sym (no_number t asked q ne);
     got = a.got;
-    noted = a.noted;
+    dealt = a.dealt;
     come = a.come;
+    unfinished = a.unfinished;
   }
 
   pub asking_more :
-      (n : ℕ) (was : ℕ → ClientView V O R T) (asked : List (Question V O R T)) (replies : List R) (old new : Books V ℕ D O R T) (trust : Trust) (op : O)
-      → IsAsking view was asked replies old → n ≡ length asked → n < length replies → HasAsked trust.trustee (Apply trust.name op) n 0 old new
-      → IsAsking view was (asked ++ operation trust op ∷ []) replies new
-  asking_more n was asked replies old new trust op is many room h =
-      let as_many : length new.lanes.items ≡ length old.lanes.items = ap length h.lanes ∙ length-set old.lanes.items trust.trustee h.becomes in
-      let within = slice_get_within old.lanes.items trust.trustee h.lane h.of_lane in
-      let one = length-append asked (operation trust op ∷ []) in record {
+      (n : ℕ) (was : ℕ → ClientView V O R T) (asked : List (Question V O R T)) (replies : List R) (old new : Books V ℕ D O R T) (q : Question V O R T)
+      → IsAsking view missing was asked replies old → HasReply q.request → n ≡ length asked → n < length replies → HasAsked q.trustee q.request n 0 old new
+      → IsAsking view missing was (asked ++ q ∷ []) replies new
+  asking_more n was asked replies old new q is own many room h =
+      let as_many : length new.lanes.items ≡ length old.lanes.items = ap length h.lanes ∙ length-set old.lanes.items q.trustee h.becomes in
+      let within = slice_get_within old.lanes.items q.trustee h.lane h.of_lane in
+      let one = length-append asked (q ∷ []) in record {
         few = omega (arith, one, many, room);
-        known = subst (λ k. AllByRecursion (λ q. q.trustee < k) (asked ++ operation trust op ∷ [])) (sym as_many)
-            (all-append (λ q. q.trustee < length old.lanes.items) asked (operation trust op ∷ []) is.known (within, tt));
+        known = subst (λ k. AllByRecursion (λ p. p.trustee < k) (asked ++ q ∷ [])) (sym as_many)
+            (all-append (λ p. p.trustee < length old.lanes.items) asked (q ∷ []) is.known (within, tt));
         lanes = λ t lane e.
-            subst (λ xs. IsAskedAt view t (was t) (asked ++ operation trust op ∷ []) replies xs lane) (sym (ap (λ a. a.items) h.rest.arrived))
-            (elim (set_cases old.lanes.items trust.trustee t h.becomes lane (subst (λ xs. slice_get xs t ≡ Some lane) h.lanes e)) [
+            subst (λ xs. IsAskedAt view missing t (was t) (asked ++ q ∷ []) replies xs lane) (sym (ap (λ a. a.items) h.rest.arrived))
+            (elim (set_cases old.lanes.items q.trustee t h.becomes lane (subst (λ xs. slice_get xs t ≡ Some lane) h.lanes e)) [
               | inl (same, becomes) ↦
-                  subst (λ l. IsAskedAt view t (was t) (asked ++ operation trust op ∷ []) replies old.arrived.items l) (sym becomes)
-                  (asked_here t n (was t) asked replies old.arrived.items h.lane h.becomes trust op
-                  (is.lanes t h.lane (subst (λ k. slice_get old.lanes.items k ≡ Some h.lane) (sym same) h.of_lane)) h.accepts (sym same) many)
+                  subst (λ l. IsAskedAt view missing t (was t) (asked ++ q ∷ []) replies old.arrived.items l) (sym becomes)
+                  (asked_here t n (was t) asked replies old.arrived.items h.lane h.becomes q
+                  (is.lanes t h.lane (subst (λ k. slice_get old.lanes.items k ≡ Some h.lane) (sym same) h.of_lane)) own h.accepts (sym same) many)
               | inr (other, there) ↦
-                  asked_elsewhere t (was t) asked replies old.arrived.items lane (operation trust op) (is.lanes t lane there) (λ same. other (sym same))
+                  asked_elsewhere t (was t) asked replies old.arrived.items lane q (is.lanes t lane there) (λ same. other (sym same))
             ]);
       }
 

@@ -54,13 +54,13 @@ cond_both true r xs ys = refl
 cond_both false r xs ys = refl
 
 module _ {V O R T : Type 0} where
-  ended_front : (log more : List (Entry V O R T)) (ticket : ℕ) (r : R) → HasEnded log ticket r → HasEnded (log ++ more) ticket r
+  pub ended_front : (log more : List (Entry V O R T)) (ticket : ℕ) (r : R) → HasEnded log ticket r → HasEnded (log ++ more) ticket r
   ended_front log more ticket r (id, event, has) = (id, event, in_front log more _ has)
 
   ended_behind : (log more : List (Entry V O R T)) (ticket : ℕ) (r : R) → HasEnded more ticket r → HasEnded (log ++ more) ticket r
   ended_behind log more ticket r (id, event, has) = (id, event, behind log more _ has)
 
-  reply_front : (missing : R) (log more : List (Entry V O R T)) (a : Answer V O R T) (r : R) → IsReplyOf missing log a r → IsReplyOf missing (log ++ more) a r
+  pub reply_front : (missing : R) (log more : List (Entry V O R T)) (a : Answer V O R T) (r : R) → IsReplyOf missing log a r → IsReplyOf missing (log ++ more) a r
   reply_front missing log more (Replied reply) r h = h
   reply_front missing log more (Launched ticket) r h = ended_front log more ticket r h
   reply_front missing log more (TicketsSpent task) r h = h

@@ -1,8 +1,13 @@
+pub mod Among
 pub mod Begins
 pub mod Carried
+pub mod Coming
 pub mod Dealing
+pub mod Ends
 pub mod Entering
+pub mod Finishing
 pub mod Home
 pub mod Joining
 pub mod Replied
+pub mod Sides
 pub mod Taking

@@ -8,11 +8,11 @@ use Rattle.std.proofs.lemmas.List.{append-nil, append_cancel_left}
 use Rattle.tm_batch.specs.declared.message.Request.{Request}
 use Rattle.tm_batch.specs.declared.message.Request.TheVariants.{Entrust, Apply, Launch, Grant, Release, Reclaim, Bye}
 use Rattle.tm_batch.specs.declared.message.Answer.{Answer}
-use Rattle.tm_batch.specs.declared.message.Answer.TheVariants.{Replied}
 use Rattle.tm_model.specs.declared.entry.Entry.{Entry}
 use Rattle.tm_model.specs.State.{State}
 use Rattle.tm_model.specs.Ran.{mark_of, ran, answered}
 use Rattle.tm_model.specs.Holds.{answers_in}
+use Rattle.tm_core.proofs.CallerLemmas.{all_weaker}
 use Rattle.tm_core.proofs.Marks.{ran-append}
 use Rattle.tm_core.proofs.Longer.{answered-append}
 use Rattle.tm_pair.specs.Views.{ClientView}
@@ -24,7 +24,8 @@ use Rattle.tm_client.specs.Clients.{come_of, IsClient}
 use Rattle.tm_client.proofs.Accepting.{as_many_wait}
 use Rattle.tm_client.proofs.Told.{none_left}
 use Rattle.tm_asking.specs.Questions.{Question, requests_at, replies_at, IsReplyOf, HasAskedAll}
-use Rattle.tm_asking.specs.Asking.{numbers_at, IsApply, answer_in, come_at, IsNoted, IsSettled, IsAskedAt, IsAsking, AreReplied, AreBegun, NoneCounts, side_in, sides_of}
+use Rattle.tm_asking.specs.Asking.{numbers_at, HasReply, come_at, untaken_at, IsCome, IsTold, IsNoted, IsDealt, IsSettled, IsAskedAt, IsAsking, AreReplied, AreBegun, NoneCounts, side_in, sides_of}
+use Rattle.tm_asking.proofs.Among.{none_among}
 
 module _ {X : Type 0} where
   at_front : (front : List X) (x : X) (xs : List X) (n : ℕ) → n ≡ length front → slice_get (front ++ x ∷ xs) n ≡ Some x
@@ -44,65 +45,73 @@ module _ {V O R T : Type 0} where
   replies_other t q qs r rs ne = ap (λ b. cond b (r ∷ replies_at t qs rs) (replies_at t qs rs)) (ne_eqb q.trustee t ne)
 
   -- what is noted at the place of the next number
-  first_noted : (front : List R) (r : R) (rest : List R) (n : ℕ) (c : ℕ × Answer V O R T) → n ≡ length front → c.0 ≡ n → IsNoted (front ++ r ∷ rest) c
-      → c.1 ≡ Replied r
-  first_noted front r rest n c at is (reply, replied, there) =
+  first_noted :
+      (missing : R) (log : List (Entry V O R T)) (front : List R) (r : R) (rest : List R) (n : ℕ) (c : ℕ × Answer V O R T) → n ≡ length front → c.0 ≡ n
+      → IsNoted missing log (front ++ r ∷ rest) c → IsReplyOf missing log c.1 r
+  first_noted missing log front r rest n c at is (reply, there, own) =
       let here : slice_get (front ++ r ∷ rest) c.0 ≡ Some r = rw is (at_front front r rest n at) in
       let both : Some reply ≡ Some r = sym there ∙ here in
       let same : reply ≡ r = cc in
-      replied ∙ ap (λ x. Replied x) same
+      subst (IsReplyOf missing log c.1) same own
 
   dealt_here :
-      (t n : ℕ) (qs : List (Question V O R T)) (front rest : List R) (r : R) (taken : List (ℕ × Answer V O R T)) → n ≡ length front
-      → ((ts : List (ℕ × Answer V O R T)) → map (λ c. c.0) ts ≡ numbers_at t (n + 1) qs → AllByRecursion (IsNoted (front ++ r ∷ rest)) ts
-      → map (λ c. c.1) ts ≡ map (λ x. Replied x) (replies_at t qs rest))
-      → map (λ c. c.0) taken ≡ n ∷ numbers_at t (n + 1) qs → AllByRecursion (IsNoted (front ++ r ∷ rest)) taken
-      → map (λ c. c.1) taken ≡ map (λ x. Replied x) (r ∷ replies_at t qs rest)
-  dealt_here t n qs front rest r [] at later e h = absurd cc
-  dealt_here t n qs front rest r (c ∷ taken) at later e h =
+      (missing : R) (log : List (Entry V O R T)) (t n : ℕ) (qs : List (Question V O R T)) (front rest : List R) (r : R) (told : List (ℕ × Answer V O R T))
+      → n ≡ length front
+      → ((ts : List (ℕ × Answer V O R T)) → map (λ c. c.0) ts ≡ numbers_at t (n + 1) qs → AllByRecursion (IsNoted missing log (front ++ r ∷ rest)) ts
+      → AllZip (IsReplyOf missing log) (map (λ c. c.1) ts) (replies_at t qs rest))
+      → map (λ c. c.0) told ≡ n ∷ numbers_at t (n + 1) qs → AllByRecursion (IsNoted missing log (front ++ r ∷ rest)) told
+      → AllZip (IsReplyOf missing log) (map (λ c. c.1) told) (r ∷ replies_at t qs rest)
+  dealt_here missing log t n qs front rest r [] at later e h = absurd cc
+  dealt_here missing log t n qs front rest r (c ∷ told) at later e h =
       let is : c.0 ≡ n = cc in
-      let others : map (λ c. c.0) taken ≡ numbers_at t (n + 1) qs = cc in
-      let first = first_noted front r rest n c at is h.0 in
-      let more = later taken others h.1 in
-      cc
+      let others : map (λ c. c.0) told ≡ numbers_at t (n + 1) qs = cc in
+      (first_noted missing log front r rest n c at is h.0, later told others h.1)
 
-  -- where the numbers of what was noted are those of all questions to a trustee, what was noted are the replies to these
+  -- where the numbers of what was noted are those of all questions to a trustee, the replies to these are those of the answers
   pub dealt :
-      (t n : ℕ) (qs : List (Question V O R T)) (front rest : List R) (taken : List (ℕ × Answer V O R T)) → n ≡ length front → length qs ≡ length rest
-      → map (λ c. c.0) taken ≡ numbers_at t n qs → AllByRecursion (IsNoted (front ++ rest)) taken
-      → map (λ c. c.1) taken ≡ map (λ x. Replied x) (replies_at t qs rest)
-  dealt t n [] front rest [] at many e h = refl
-  dealt t n [] front rest (c ∷ taken) at many e h = absurd cc
-  dealt t n (q ∷ qs) front [] taken at many e h = absurd (omega (arith, many))
-  dealt t n (q ∷ qs) front (r ∷ rest) taken at many e h =
+      (missing : R) (log : List (Entry V O R T)) (t n : ℕ) (qs : List (Question V O R T)) (front rest : List R) (told : List (ℕ × Answer V O R T))
+      → n ≡ length front → length qs ≡ length rest
+      → map (λ c. c.0) told ≡ numbers_at t n qs → AllByRecursion (IsNoted missing log (front ++ rest)) told
+      → AllZip (IsReplyOf missing log) (map (λ c. c.1) told) (replies_at t qs rest)
+  dealt missing log t n [] front rest [] at many e h = tt
+  dealt missing log t n [] front rest (c ∷ told) at many e h = absurd cc
+  dealt missing log t n (q ∷ qs) front [] told at many e h = absurd (omega (arith, many))
+  dealt missing log t n (q ∷ qs) front (r ∷ rest) told at many e h =
       let longer : front ++ r ∷ rest ≡ (front ++ r ∷ []) ++ rest = sym (append_assoc front (r ∷ []) rest) in
       let one = length-append front (r ∷ []) in
       let next : n + 1 ≡ length (front ++ r ∷ []) = omega (arith, at, one) in
-      let later : (ts : List (ℕ × Answer V O R T)) → map (λ c. c.0) ts ≡ numbers_at t (n + 1) qs → AllByRecursion (IsNoted (front ++ r ∷ rest)) ts
-      → map (λ c. c.1) ts ≡ map (λ x. Replied x) (replies_at t qs rest) =
-      λ ts f k. dealt t (n + 1) qs (front ++ r ∷ []) rest ts next (omega (arith, many)) f (subst (λ xs. AllByRecursion (IsNoted xs) ts) longer k) in
+      let later : (ts : List (ℕ × Answer V O R T)) → map (λ c. c.0) ts ≡ numbers_at t (n + 1) qs → AllByRecursion (IsNoted missing log (front ++ r ∷ rest)) ts
+      → AllZip (IsReplyOf missing log) (map (λ c. c.1) ts) (replies_at t qs rest) =
+      λ ts f k. dealt missing log t (n + 1) qs (front ++ r ∷ []) rest ts next (omega (arith, many)) f
+      (subst (λ xs. AllByRecursion (IsNoted missing log xs) ts) longer k) in
       elim (cases_eq q.trustee t) [
         | inl is ↦
-            dealt_here t n qs front rest r taken at later (e ∙ ap (λ b. cond b (n ∷ numbers_at t (n + 1) qs) (numbers_at t (n + 1) qs)) (eq-eqb q.trustee t is)) h
-            ∙ ap (λ xs. map (λ x. Replied x) xs) (sym (replies_here t q qs r rest is))
+            subst (AllZip (IsReplyOf missing log) (map (λ c. c.1) told)) (sym (replies_here t q qs r rest is))
+            (dealt_here missing log t n qs front rest r told at later
+            (e ∙ ap (λ b. cond b (n ∷ numbers_at t (n + 1) qs) (numbers_at t (n + 1) qs)) (eq-eqb q.trustee t is)) h)
         | inr ne ↦
-            later taken (e ∙ ap (λ b. cond b (n ∷ numbers_at t (n + 1) qs) (numbers_at t (n + 1) qs)) (ne_eqb q.trustee t ne)) h
-            ∙ ap (λ xs. map (λ x. Replied x) xs) (sym (replies_other t q qs r rest ne))
+            subst (AllZip (IsReplyOf missing log) (map (λ c. c.1) told)) (sym (replies_other t q qs r rest ne))
+            (later told (e ∙ ap (λ b. cond b (n ∷ numbers_at t (n + 1) qs) (numbers_at t (n + 1) qs)) (ne_eqb q.trustee t ne)) h)
       ]
 
-  each_reply : (missing : R) (log : List (Entry V O R T)) (rs : List R) → AllZip (IsReplyOf missing log) (map (λ r. Replied r) rs) rs
-  each_reply missing log [] = tt
-  each_reply missing log (r ∷ rs) = (refl, each_reply missing log rs)
+  -- where no reply is left to be taken, all are noted
+  all_noted :
+      (missing : R) (log : List (Entry V O R T)) (replies : List R) (told : List (ℕ × Answer V O R T)) → AllByRecursion (IsDealt missing log replies []) told
+      → AllByRecursion (IsNoted missing log replies) told
+  all_noted missing log replies told h =
+      all_weaker (IsDealt missing log replies []) (IsNoted missing log replies) told
+      (λ c d. elim d [ inl untaken ↦ absurd (none_among c.0 untaken) | inr noted ↦ noted ]) h
 
-  pub apply_asks : (b : List (Request V O R T)) → AllByRecursion IsApply b → asks_in b ≡ b
-  apply_asks [] h = refl
-  apply_asks (Entrust v ∷ b) h = absurd h.0
-  apply_asks (Apply n op ∷ b) h = ap (λ l. Apply n op ∷ l) (apply_asks b h.1)
-  apply_asks (Launch n task ∷ b) h = absurd h.0
-  apply_asks (Grant n d ∷ b) h = absurd h.0
-  apply_asks (Release n ∷ b) h = absurd h.0
-  apply_asks (Reclaim n ∷ b) h = absurd h.0
-  apply_asks (Bye ∷ b) h = absurd h.0
+  -- no request to which there is a reply is a Bye
+  pub reply_asks : (b : List (Request V O R T)) → AllByRecursion HasReply b → asks_in b ≡ b
+  reply_asks [] h = refl
+  reply_asks (Entrust v ∷ b) h = absurd h.0
+  reply_asks (Apply n op ∷ b) h = ap (λ l. Apply n op ∷ l) (reply_asks b h.1)
+  reply_asks (Launch n task ∷ b) h = ap (λ l. Launch n task ∷ l) (reply_asks b h.1)
+  reply_asks (Grant n d ∷ b) h = absurd h.0
+  reply_asks (Release n ∷ b) h = absurd h.0
+  reply_asks (Reclaim n ∷ b) h = absurd h.0
+  reply_asks (Bye ∷ b) h = absurd h.0
 
   none_come : (t : ℕ) (arrived : List (Arrival V ℕ O R T)) → come_of t arrived ≡ 0 → come_at t arrived ≡ []
   none_come t [] e = refl
@@ -111,19 +120,19 @@ module _ {V O R T : Type 0} where
         | inl is ↦ absurd (let one = ap {B = ℕ} (λ b. cond b 1 0) (eq-eqb a.trustee t is) in omega (arith, e, one))
         | inr ne ↦
             let none = ap {B = ℕ} (λ b. cond b 1 0) (ne_eqb a.trustee t ne) in
-            ap (λ b. cond b ((a.after, answer_in a.came) ∷ come_at t arrived) (come_at t arrived)) (ne_eqb a.trustee t ne)
+            ap (λ b. cond b ((a.after, a.came) ∷ come_at t arrived) (come_at t arrived)) (ne_eqb a.trustee t ne)
             ∙ none_come t arrived (omega (arith, e, none))
       ]
 
   -- the requests and the answers by which a side's seen log grew
-  grown_runs : (was now : ClientView V O R T) (grown : List (Entry V O R T)) (requests : List (Request V O R T)) → IsSettled was → now.place ≡ was.place
+  pub grown_runs : (was now : ClientView V O R T) (grown : List (Entry V O R T)) (requests : List (Request V O R T)) → IsSettled was → now.place ≡ was.place
       → now.seen ≡ was.seen ++ grown → now.sent ≡ ran now.place now.seen → now.sent ≡ was.sent ++ requests → ran now.place grown ≡ requests
   grown_runs was now grown requests settled place seen runs sent =
       sym (append_cancel_left was.sent requests (ran now.place grown)
       (sym sent ∙ runs ∙ ap (λ log. ran now.place log) seen ∙ ran-append mark_of now.place was.seen grown
       ∙ ap (λ xs. xs ++ ran now.place grown) (ap (λ c. ran c was.seen) place ∙ sym settled.runs)))
 
-  grown_answers : (was now : ClientView V O R T) (grown : List (Entry V O R T)) (answers : List (Answer V O R T)) → IsSettled was → now.place ≡ was.place
+  pub grown_answers : (was now : ClientView V O R T) (grown : List (Entry V O R T)) (answers : List (Answer V O R T)) → IsSettled was → now.place ≡ was.place
       → now.seen ≡ was.seen ++ grown → answers_in now.got ≡ answered now.place now.seen → answers_in now.got ≡ answers_in was.got ++ answers
       → answered now.place grown ≡ answers
   grown_answers was now grown answers settled place seen entries got =
@@ -156,10 +165,10 @@ module _ {V O R T D : Type 0} (view : D → ClientView V O R T) where
         come = none_come t arrived (omega (arith, counts, none));
       }
 
-  module _ (t : ℕ) (was : ClientView V O R T) (asked : List (Question V O R T)) (replies : List R) (arrived : List (Arrival V ℕ O R T))
-      (lane : Lane V ℕ D O R T) (a : IsAskedAt view t was asked replies arrived lane) (rest : IsLaneAtRest t arrived lane) where
+  module _ (missing : R) (t : ℕ) (was : ClientView V O R T) (asked : List (Question V O R T)) (replies : List R) (arrived : List (Arrival V ℕ O R T))
+      (lane : Lane V ℕ D O R T) (a : IsAskedAt view missing t was asked replies arrived lane) (rest : IsLaneAtRest t arrived lane) where
     nothing_out : out_requests (view lane.side).out ≡ []
-    nothing_out = sym (apply_asks (out_requests (view lane.side).out) a.side.out_apply) ∙ rest.out
+    nothing_out = sym (reply_asks (out_requests (view lane.side).out) a.side.out_reply) ∙ rest.out
 
     pub runs_all : (view lane.side).sent ≡ ran (view lane.side).place (view lane.side).seen
     runs_all = a.side.runs ∙ ap (λ xs. ran (view lane.side).place (view lane.side).seen ++ xs) nothing_out ∙ append-nil _
@@ -167,84 +176,87 @@ module _ {V O R T D : Type 0} (view : D → ClientView V O R T) where
     sent_all : (view lane.side).sent ≡ was.sent ++ requests_at t asked
     sent_all = sym (append-nil (view lane.side).sent) ∙ ap (λ xs. (view lane.side).sent ++ xs) (sym rest.waits) ∙ a.sent
 
-    taken_all : a.taken ++ come_at t arrived ≡ a.taken
-    taken_all = ap (λ xs. a.taken ++ xs) rest.come ∙ append-nil a.taken
-
-    numbers_all : map (λ c. c.0) a.taken ≡ numbers_at t 0 asked
+    numbers_all : map (λ c. c.0) a.told ≡ numbers_at t 0 asked
     numbers_all =
-        ap (λ xs. map (λ c. c.0) xs) (sym taken_all) ∙ sym (append-nil (map (λ c. c.0) (a.taken ++ come_at t arrived)))
-        ∙ ap (λ ws. map (λ c. c.0) (a.taken ++ come_at t arrived) ++ map (λ w. w.after) ws) (sym rest.afters) ∙ a.numbers
+        sym (append-nil (map (λ c. c.0) a.told)) ∙ ap (λ ws. map (λ c. c.0) a.told ++ map (λ w. w.after) ws) (sym rest.afters) ∙ a.numbers
 
-    got_all : answers_in (view lane.side).got ≡ answers_in was.got ++ map (λ c. c.1) a.taken
-    got_all = a.got ∙ ap (λ xs. answers_in was.got ++ map (λ c. c.1) xs) taken_all
+    -- nothing is left to be taken
+    untaken_none : untaken_at t arrived lane.launched.items ≡ []
+    untaken_none =
+        ap (λ cs. map (λ c. c.0) cs ++ map (λ l. l.after) lane.launched.items) rest.come ∙ ap {B = List ℕ} (λ ls. map (λ l. l.after) ls) rest.launched
 
-    pub all_replied : (missing : R) → length asked ≡ length replies
-        → HasAskedAll missing (requests_at t asked) (replies_at t asked replies) was (view lane.side)
-    all_replied missing many =
-        let (grown, seen) = a.side.seen in
-        let answers = grown_answers was (view lane.side) grown (map (λ c. c.1) a.taken) a.side.settled a.side.place seen a.side.entries got_all in
-        let dealt_all = dealt t 0 asked [] replies a.taken refl many numbers_all a.noted in record {
+    noted_all : AllByRecursion (IsNoted missing a.side.grown replies) a.told
+    noted_all =
+        all_noted missing a.side.grown replies a.told
+        (subst (λ l. AllByRecursion (IsDealt missing a.side.grown replies l) a.told) untaken_none a.dealt)
+
+    pub all_replied : length asked ≡ length replies → HasAskedAll missing (requests_at t asked) (replies_at t asked replies) was (view lane.side)
+    all_replied many =
+        let grown = a.side.grown in
+        let answers = grown_answers was (view lane.side) grown (map (λ c. c.1) a.told) a.side.settled a.side.place a.side.seen a.side.entries a.got in record {
           place = a.side.place;
           sent = sent_all;
           grown = grown;
-          seen = seen;
-          runs = grown_runs was (view lane.side) grown (requests_at t asked) a.side.settled a.side.place seen runs_all sent_all;
-          replied = subst (λ xs. AllZip (IsReplyOf missing grown) xs (replies_at t asked replies)) (sym (answers ∙ dealt_all))
-              (each_reply missing grown (replies_at t asked replies));
+          seen = a.side.seen;
+          runs = grown_runs was (view lane.side) grown (requests_at t asked) a.side.settled a.side.place a.side.seen runs_all sent_all;
+          replied = subst (λ xs. AllZip (IsReplyOf missing grown) xs (replies_at t asked replies)) (sym answers)
+              (dealt missing grown t 0 asked [] replies a.told refl many numbers_all noted_all);
         }
 
     -- and the next message may begin
-    pub begins_again : (more : List R) → IsAskedAt view t (view lane.side) [] more arrived lane
-    begins_again more = record {
+    pub begins_again : (other : R) (more : List R) → IsAskedAt view other t (view lane.side) [] more arrived lane
+    begins_again other more = record {
       side = record {
         settled = record { runs = runs_all; entries = a.side.entries };
         place = refl;
-        seen = ([], sym (append-nil _));
+        grown = [];
+        seen = sym (append-nil _);
         runs = a.side.runs;
         entries = a.side.entries;
-        out_apply = a.side.out_apply;
+        out_reply = a.side.out_reply;
       };
       is_open = a.is_open;
-      unlaunched = a.unlaunched;
       sent = ap (λ xs. (view lane.side).sent ++ xs) rest.waits;
-      waits_apply = a.waits_apply;
-      taken = [];
-      numbers = ap (λ xs. map (λ c. c.0) xs ++ map (λ w. w.after) lane.afters.items) rest.come ∙ ap (λ ws. map (λ w. w.after) ws) rest.afters;
-      got = sym (ap (λ xs. answers_in (view lane.side).got ++ map (λ c. c.1) xs) rest.come ∙ append-nil _);
-      noted = tt;
-      come = a.come;
+      waits_reply = a.waits_reply;
+      told = [];
+      numbers = ap (λ ws. map (λ w. w.after) ws) rest.afters;
+      got = sym (append-nil _);
+      dealt = tt;
+      come = subst (λ cs. AllByRecursion (IsCome [] []) cs) (sym rest.come) tt;
+      unfinished = subst (λ ls. AllByRecursion (IsTold {V = V} {O = O} {R = R} {T = T} []) ls) (sym rest.launched) tt;
     }
 
-  module _ (openings : ℕ → State V O R T) (was : ℕ → ClientView V O R T) (asked : List (Question V O R T)) (replies : List R) where
+  module _ (openings : ℕ → State V O R T) (missing : R) (was : ℕ → ClientView V O R T) (asked : List (Question V O R T)) (replies : List R) where
     pub replied_all :
-        (books : Books V ℕ D O R T) → IsClient view openings books → IsAsking view was asked replies books → NoneCounts books → length asked ≡ length replies
-        → AreReplied view was asked replies books
+        (books : Books V ℕ D O R T) → IsClient view openings books → IsAsking view missing was asked replies books → NoneCounts books → length asked ≡ length replies
+        → AreReplied view missing was asked replies books
     replied_all books client is none many = record {
       each = sym many;
-      at = λ t lane missing there.
-          all_replied t (was t) asked replies books.arrived.items lane (is.lanes t lane there)
-          (lane_at_rest (openings t) books.number t books.arrived.items lane (client.lanes t lane there) (none t lane there)) missing many;
+      at = λ t lane there.
+          all_replied missing t (was t) asked replies books.arrived.items lane (is.lanes t lane there)
+          (lane_at_rest (openings t) books.number t books.arrived.items lane (client.lanes t lane there) (none t lane there)) many;
     }
 
     pub begun_all :
-        (more : List R) (books : Books V ℕ D O R T) → IsClient view openings books → IsAsking view was asked replies books → NoneCounts books
-        → IsAsking view (sides_of view books) [] more books
-    begun_all more books client is none = record {
+        (other : R) (more : List R) (books : Books V ℕ D O R T) → IsClient view openings books → IsAsking view missing was asked replies books → NoneCounts books
+        → IsAsking view other (sides_of view books) [] more books
+    begun_all other more books client is none = record {
       few = omega arith;
       known = tt;
       lanes = λ t lane there.
-          subst (λ o. IsAskedAt view t (side_in view t o) [] more books.arrived.items lane) (sym there)
-          (begins_again t (was t) asked replies books.arrived.items lane (is.lanes t lane there)
-          (lane_at_rest (openings t) books.number t books.arrived.items lane (client.lanes t lane there) (none t lane there)) more);
+          subst (λ o. IsAskedAt view other t (side_in view t o) [] more books.arrived.items lane) (sym there)
+          (begins_again missing t (was t) asked replies books.arrived.items lane (is.lanes t lane there)
+          (lane_at_rest (openings t) books.number t books.arrived.items lane (client.lanes t lane there) (none t lane there)) other more);
     }
 
   -- before all replies are there, the first of the questions were sent, and what was run of them is behind what was seen
   pub begun_so_far :
-      (was : ℕ → ClientView V O R T) (asked : List (Question V O R T)) (replies : List R) (books : Books V ℕ D O R T) → IsAsking view was asked replies books
-      → AreBegun view was asked books
-  begun_so_far was asked replies books is = λ t lane missing there.
+      (counted : R) (was : ℕ → ClientView V O R T) (asked : List (Question V O R T)) (replies : List R) (books : Books V ℕ D O R T)
+      → IsAsking view counted was asked replies books → AreBegun view was asked books
+  begun_so_far counted was asked replies books is = λ t lane missing there.
       let a = is.lanes t lane there in
-      let (grown, seen) = a.side.seen in
+      let grown = a.side.grown in
+      let seen = a.side.seen in
       let side = view lane.side in
       let ran_all : ran side.place side.seen ≡ (was t).sent ++ ran side.place grown =
       ap (λ log. ran side.place log) seen ∙ ran-append mark_of side.place (was t).seen grown

@@ -1,4 +1,5 @@
 pub mod Questions
 pub mod Asking
+pub mod Noting
 pub mod Turning
 pub mod Laws

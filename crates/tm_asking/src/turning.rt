@@ -16,9 +16,9 @@ pub enum Turned {
     Nothing,
     /// Each turn looked for answers and found none.
     Pending,
-    /// No turn sent requests or got answers, and at one of them all answers had arrived, and wait to be taken.
+    /// No turn sent a batch or got answers, and at one of them all had arrived, and waits to be taken.
     Arrived,
-    /// A turn sent requests or got answers.
+    /// A turn sent a batch or got answers. While a launch lacks its completion an empty batch is sent where none is out.
     Moved,
 }
 
@@ -59,8 +59,8 @@ fn turn_at<S: FitsBatches, P: PairTable<S>>(
     requires trustee { trustee < length tables.old }
     ensures turned { TurnsWhereCounting P.theory S.kind trustee result tables.old client.old.books tables.new client.new.books }
     ensures home { (openings : ℕ → State S S.Op S.Reply S.Task) → IsAtTables P.theory openings tables.old client.old.books → IsAtTables P.theory openings tables.new client.new.books }
-    ensures asks { (was : ℕ → ClientView S S.Op S.Reply S.Task) (asked : List (Question S S.Op S.Reply S.Task)) (replies : List S.Reply)
-        → IsAsking P.theory.client_view was asked replies client.old.books → IsAsking P.theory.client_view was asked replies client.new.books }
+    ensures asks { (missing : S.Reply) (was : ℕ → ClientView S S.Op S.Reply S.Task) (asked : List (Question S S.Op S.Reply S.Task)) (replies : List S.Reply)
+        → IsAsking P.theory.client_view missing was asked replies client.old.books → IsAsking P.theory.client_view missing was asked replies client.new.books }
     ensures held { client.new.books.held ≡ client.old.books.held }
 {
     if client.counting(trustee as u32) == 0 {
@@ -78,8 +78,8 @@ pub fn turn_where_counting<S: FitsBatches, P: PairTable<S>>(
     requires home { (openings : ℕ → State S S.Op S.Reply S.Task) × IsAtTables P.theory openings tables.old client.old.books }
     ensures turned { TurnsBelow P.theory S.kind (length tables.old) result tables.old client.old.books tables.new client.new.books }
     ensures home { (openings : ℕ → State S S.Op S.Reply S.Task) → IsAtTables P.theory openings tables.old client.old.books → IsAtTables P.theory openings tables.new client.new.books }
-    ensures asks { (was : ℕ → ClientView S S.Op S.Reply S.Task) (asked : List (Question S S.Op S.Reply S.Task)) (replies : List S.Reply)
-        → IsAsking P.theory.client_view was asked replies client.old.books → IsAsking P.theory.client_view was asked replies client.new.books }
+    ensures asks { (missing : S.Reply) (was : ℕ → ClientView S S.Op S.Reply S.Task) (asked : List (Question S S.Op S.Reply S.Task)) (replies : List S.Reply)
+        → IsAsking P.theory.client_view missing was asked replies client.old.books → IsAsking P.theory.client_view missing was asked replies client.new.books }
     ensures held { client.new.books.held ≡ client.old.books.held }
 {
     let mut told = Turned::Nothing;

@@ -58,8 +58,10 @@ returns-clause-home g c = λ openings home.
     (c.turn.ensures.client openings (home.opens c.args.trustee (slice_index_or c.args.tables.now c.args.trustee c.index-tables-trustee.result) at) home.client)
 
 pub returns-clause-asks : goal.returns-clause-asks
-returns-clause-asks g c = λ was asked replies is.
+returns-clause-asks g c = λ missing was asked replies is.
+    let theory = g.P.PairTable.theory in
     let (openings, home) = c.requires.home in
-    turning_goes_on g.P.PairTable.theory g.S.Entrusted.kind openings c.args.trustee c.turn.result
-    (slice_index_or c.args.tables.now c.args.trustee c.index-tables-trustee.result) c.turn.new.table was asked replies c.args.client.now.books c.turn.new.self.books home.client is
-    c.turn.ensures.turned
+    let turned = c.turn.ensures.turned in
+    turning_goes_on theory g.S.Entrusted.kind openings c.args.trustee c.turn.result
+    (slice_index_or c.args.tables.now c.args.trustee c.index-tables-trustee.result) c.turn.new.table missing was asked replies c.args.client.now.books c.turn.new.self.books
+    home.client is turned (theory.opening c.turn.new.table) (g.met.P.PairTable.laws.client_is_good c.turn.new.table turned.becomes.side turned.keeps.mine)

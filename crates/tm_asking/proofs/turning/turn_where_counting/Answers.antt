@@ -6,7 +6,7 @@ pub loop-trustee-init : goal.loop-trustee-init
 loop-trustee-init g c = record {
   turned = below_none g.P.PairTable.theory g.S.Entrusted.kind c.args.tables.now c.args.client.now.books;
   home = λ openings h. h;
-  asks = λ was asked replies h. h;
+  asks = λ missing was asked replies h. h;
   held = refl;
 }
 
@@ -19,6 +19,6 @@ loop-trustee-preserved g c = record {
       c.turn_at-here.new.tables c.args.client.now.books c.loop-trustee.client.books c.turn_at-here.new.client.books c.loop-trustee.invariant.turned c.turn_at-here.ensures.turned
       c.with-told.ensures;
   home = λ openings h. c.turn_at-here.ensures.home openings (c.loop-trustee.invariant.home openings h);
-  asks = λ was asked replies h. c.turn_at-here.ensures.asks was asked replies (c.loop-trustee.invariant.asks was asked replies h);
+  asks = λ missing was asked replies h. c.turn_at-here.ensures.asks missing was asked replies (c.loop-trustee.invariant.asks missing was asked replies h);
   held = c.turn_at-here.ensures.held ∙ c.loop-trustee.invariant.held;
 }
