@@ -1,37 +1,35 @@
--- The parts of a turn of tasks, one after another.
+-- The answers that tasks get in a turn, and what they do then.
 use Rattle.std.proofs.Common.{◌≡◌, ◌≢◌, ℕ, ◌+◌, ◌≤◌, inl, inr, Bool, true, false, cond, List, [], ◌∷◌, ◌++◌, length, length-set, append_assoc, map, refl, sym, ◌∙◌, ap, subst, arith}
 use Rattle.std.specs.Prelude.{◌||◌, nat_lt, slice_get, slice_set}
+use Rattle.std.specs.List.{All}
+use Rattle.std.specs.List.Sorted.{IsNonDecreasingBy}
 use Rattle.std.specs.declared.option.Option.TheVariants.{None, Some}
 use Rattle.std.proofs.lemmas.Bool.{cases_eq}
+use Rattle.std.proofs.lemmas.List.Elements.{All-append, All-nil, All-push, All-same, All-weaker}
 use Rattle.tm_seq.specs.Kind.{Kind}
 use Rattle.tm_batch.specs.declared.limits.TheConstants.{WINDOW}
-use Rattle.tm_model.specs.State.{State}
 use Rattle.tm_pair.specs.Theory.{Theory}
 use Rattle.tm_client.specs.declared.answers.Got.{Got}
-use Rattle.tm_client.specs.declared.answers.Turn.{Turn}
-use Rattle.tm_client.specs.declared.answers.Turn.TheVariants.{Sent, Pending, Got as GotSome, Idle}
 use Rattle.tm_client.specs.declared.books.Books.{Books}
 use Rattle.tm_client.specs.declared.trust.Trust.{Trust}
-use Rattle.tm_client.specs.Clients.{IsClient}
 use Rattle.tm_client.specs.Taking.{HasTaken}
-use Rattle.tm_client.specs.Turns.{HasTurned}
-use Rattle.tm_task.specs.declared.deed.Deed.TheVariants.{Started, Asked, Resumed, Turned}
+use Rattle.tm_task.specs.declared.deed.Deed.TheVariants.{Started, Asked, Resumed}
 use Rattle.tm_task.specs.declared.stage.Stage.{Stage}
 use Rattle.tm_task.specs.declared.stage.Stage.TheVariants.{Fresh, Asks, Waits, Ended}
 use Rattle.tm_task.specs.declared.task.Move.{Move}
 use Rattle.tm_task.specs.declared.task.Move.TheVariants.{Apply, Done}
 use Rattle.tm_task.specs.declared.tasks.Tasks.{Tasks}
-use Rattle.tm_task.specs.Going.{KeepsRest, HasStarted, HasResumed, MayStart, HasAskedAt, HasNotAsked, MayAsk, HaveMoved, HasGoneOnAt, HaveGoneOn, HaveMadeTurns, has_gone, is_some}
-use Rattle.tm_task.specs.Progressing.{IsSettled, moves_in, turns_in, went_in, counting_at, busy_at, all_pending, world_of}
+use Rattle.tm_task.specs.Going.{KeepsRest, HasStarted, HasResumed, MayStart, HasAskedAt, HasNotAsked, MayAsk, HaveMoved, HaveAnswered, HasGoneOnAt, HaveGoneOn, is_some}
+use Rattle.tm_task.specs.Progressing.{IsSettled, moves_in, rank, turns_in, counting_at, world_of}
 use Rattle.tm_task.specs.Rules.{Rules}
 use Rattle.tm_task.specs.Runs.{World, Runs}
 use Rattle.tm_task.specs.Stages.{is_fresh, stage_of}
 use Rattle.tm_task.proofs.Asks.{asked_more}
-use Rattle.tm_task.proofs.Busy.{turned_counting, turned_pending, busy_one}
-use Rattle.tm_task.proofs.Chains.{moves_append, turns_append, went_append, some_of_two, or_none, pending_append, firsts_append, runs_then, runs_none, runs_one}
+use Rattle.tm_task.proofs.Chains.{moves_append, turns_append, some_of_two, runs_then, runs_none, runs_one}
 use Rattle.tm_task.proofs.Places.{set_here, set_other, read_some}
+use Rattle.tm_task.proofs.Ranks.{one_rank, rising_joined}
 
-append_nil : {X : Type 0} (xs : List X) → xs ++ [] ≡ xs
+pub append_nil : {X : Type 0} (xs : List X) → xs ++ [] ≡ xs
 append_nil [] = refl
 append_nil (x ∷ xs) = ap (λ ys. x ∷ ys) (append_nil xs)
 
@@ -40,7 +38,7 @@ or_false true = refl
 or_false false = refl
 
 module _ {V T O R K U : Type 0} where
-  rest_same : (tasks : Tasks V T O R K U) → KeepsRest tasks tasks
+  pub rest_same : (tasks : Tasks V T O R K U) → KeepsRest tasks tasks
   rest_same tasks = record { trusts = refl; room = refl; stages_room = refl; outs = refl }
 
   pub rest_then : (old mid new : Tasks V T O R K U) → KeepsRest old mid → KeepsRest mid new → KeepsRest old new
@@ -98,7 +96,12 @@ module _ {V T O R K U D Table Owner : Type 0} (theory : Theory V O R K Table D O
     rest = rest_then old mid new f.rest s.rest;
   }
 
-  pub started_moves : (n : ℕ) (old new : Tasks V T O R K U) (books : Books V ℕ D O R K) → HasStarted rules n old new
+  pub moved_deeds : (a b : Bool) (old mid new : Tasks V T O R K U) (was between now : Books V ℕ D O R K) (f : HaveMoved theory kind rules a old mid was between)
+      (s : HaveMoved theory kind rules b mid new between now) → (moved_then a b old mid new was between now f s).deeds ≡ f.deeds ++ s.deeds
+  unfolding moved_then
+  moved_deeds a b old mid new was between now f s = refl
+
+  started_moves : (n : ℕ) (old new : Tasks V T O R K U) (books : Books V ℕ D O R K) → HasStarted rules n old new
       → HaveMoved theory kind rules true old new books books
   started_moves n old new books h = record {
     deeds = Started n h.move ∷ [];
@@ -112,13 +115,16 @@ module _ {V T O R K U D Table Owner : Type 0} (theory : Theory V O R K Table D O
     rest = h.rest;
   }
 
-  pub may_start_moves : (n : ℕ) (b : Bool) (old new : Tasks V T O R K U) (books : Books V ℕ D O R K) → MayStart rules n b old new
-      → HaveMoved theory kind rules b old new books books
-  may_start_moves n true old new books h = started_moves n old new books h
+  -- what was done with a task that had its turn to be started, and that it alone was
+  may_start_moves : (n : ℕ) (b : Bool) (old new : Tasks V T O R K U) (books : Books V ℕ D O R K) → MayStart rules n b old new
+      → (have : HaveMoved theory kind rules b old new books books) × ((count : ℕ) → All (λ d. rank count d ≡ n + 1) have.deeds)
+  unfolding moved_none started_moves
+  may_start_moves n true old new books h = (started_moves n old new books h, λ count. All-push (λ d. rank count d ≡ n + 1) [] (Started n h.move) (All-nil (λ d. rank count d ≡ n + 1)) refl)
   may_start_moves n false old new books h =
-      subst (λ t. HaveMoved theory kind rules false old t books books) (sym h.0) (moved_none old books)
+      subst (λ t. (have : HaveMoved theory kind rules false old t books books) × ((count : ℕ) → All (λ d. rank count d ≡ n + 1) have.deeds)) (sym h.0)
+      (moved_none old books, λ count. All-nil (λ d. rank count d ≡ n + 1))
 
-  pub resumed_moves : (n : ℕ) (got : Got V O R K) (old new : Tasks V T O R K U) (was now : Books V ℕ D O R K) → HasResumed rules n got old new
+  resumed_moves : (n : ℕ) (got : Got V O R K) (old new : Tasks V T O R K U) (was now : Books V ℕ D O R K) → HasResumed rules n got old new
       → HasTaken n got was now → HaveMoved theory kind rules true old new was now
   resumed_moves n got old new was now h taken = record {
     deeds = Resumed n got h.move ∷ [];
@@ -131,6 +137,25 @@ module _ {V T O R K U D Table Owner : Type 0} (theory : Theory V O R K Table D O
     many = ap length h.steps.now ∙ length-set old.stages.items n (stage_of (length old.trusts.items) h.move);
     rest = h.rest;
   }
+
+  pub answered_none : (tasks : Tasks V T O R K U) (books : Books V ℕ D O R K) → HaveAnswered theory kind rules false tasks tasks books books
+  unfolding moved_none
+  answered_none tasks books = record { have = moved_none tasks books; ranks = λ count. All-nil (λ d. rank count d ≡ 0) }
+
+  -- one answer more
+  pub answered_more : (n : ℕ) (got : Got V O R K) (a : Bool) (old mid new : Tasks V T O R K U) (was between now : Books V ℕ D O R K)
+      → HaveAnswered theory kind rules a old mid was between → HasResumed rules n got mid new → HasTaken n got between now
+      → HaveAnswered theory kind rules (a || true) old new was now
+  unfolding resumed_moves
+  answered_more n got a old mid new was between now f h taken =
+      let next = resumed_moves n got mid new between now h taken in
+      record {
+        have = moved_then a true old mid new was between now f.have next;
+        ranks = λ count.
+            All-same (λ d. rank count d ≡ 0) (moved_then a true old mid new was between now f.have next).deeds (f.have.deeds ++ next.deeds)
+            (moved_deeds a true old mid new was between now f.have next)
+            (All-push (λ d. rank count d ≡ 0) f.have.deeds (Resumed n got h.move) (f.ranks count) refl);
+      }
 
   asked_moves : (n : ℕ) (old new : Tasks V T O R K U) (was now : Books V ℕ D O R K) → HasAskedAt n old new was now
       → HaveMoved theory kind rules false old new was now
@@ -168,9 +193,10 @@ module _ {V T O R K U D Table Owner : Type 0} (theory : Theory V O R K Table D O
   }
 
   may_ask_moves : (n : ℕ) (old new : Tasks V T O R K U) (was now : Books V ℕ D O R K) → MayAsk n old new was now
-      → HaveMoved theory kind rules false old new was now
-  may_ask_moves n old new was now (inl h) = asked_moves n old new was now h
-  may_ask_moves n old new was now (inr h) = not_asked_moves n old new was now h
+      → (have : HaveMoved theory kind rules false old new was now) × ((count : ℕ) → All (λ d. rank count d ≡ n + 1) have.deeds)
+  unfolding asked_moves not_asked_moves
+  may_ask_moves n old new was now (inl h) = (asked_moves n old new was now h, λ count. All-push (λ d. rank count d ≡ n + 1) [] (Asked n h.i h.op) (All-nil (λ d. rank count d ≡ n + 1)) refl)
+  may_ask_moves n old new was now (inr h) = (not_asked_moves n old new was now h, λ count. All-nil (λ d. rank count d ≡ n + 1))
 
   -- a move never leaves a task fresh
   cond_not_fresh : (b : Bool) (x y : Stage V T U O R K) (other : T) → (x ≡ Fresh other → ⊥) → (y ≡ Fresh other → ⊥) → cond b x y ≡ Fresh other → ⊥
@@ -235,12 +261,21 @@ module _ {V T O R K U D Table Owner : Type 0} (theory : Theory V O R K Table D O
   pub gone_on_at : (n : ℕ) (b : Bool) (old mid new : Tasks V T O R K U) (was now : Books V ℕ D O R K) → MayStart rules n b old mid → MayAsk n mid new was now
       → HasGoneOnAt theory kind rules n b old new was now
   gone_on_at n b old mid new was now start ask =
-      let first = may_start_moves n b old mid was start in
-      let both = moved_then b false old mid new was was now first (may_ask_moves n mid new was now ask) in
+      let (first, alone) = may_start_moves n b old mid was start in
+      let (next, too) = may_ask_moves n mid new was now ask in
+      let both = moved_then b false old mid new was was now first next in
+      let ranks : (count : ℕ) → All (λ d. rank count d ≡ n + 1) both.deeds =
+      λ count.
+      All-same (λ d. rank count d ≡ n + 1) both.deeds (first.deeds ++ next.deeds) (moved_deeds b false old mid new was was now first next)
+      (All-append (λ d. rank count d ≡ n + 1) first.deeds next.deeds (alone count) (too count)) in
+      let whole =
+      subst (λ x. (have : HaveMoved theory kind rules x old new was now) × ((count : ℕ) → All (λ d. rank count d ≡ n + 1) have.deeds)) (or_false b)
+      (both, ranks) in
       let before = start_others n b old mid start in
       let after = ask_others n mid new was now ask in
       record {
-        have = subst (λ x. HaveMoved theory kind rules x old new was now) (or_false b) both;
+        have = whole.0;
+        ranks = whole.1;
         settled = settled_at n b old mid new was now start ask (ap (λ v. v.items) first.rest.trusts);
         others = λ k ne. after.0 k ne ∙ before k ne;
         arrived = after.1;
@@ -256,8 +291,11 @@ module _ {V T O R K U D Table Owner : Type 0} (theory : Theory V O R K Table D O
   settled_more trusts was now (Ended out) more h = tt
 
   pub gone_on_none : (tasks : Tasks V T O R K U) (books : Books V ℕ D O R K) → HaveGoneOn theory kind rules 0 false tasks tasks books books
+  unfolding moved_none
   gone_on_none tasks books = record {
     have = moved_none tasks books;
+    ranks = λ count. All-nil (λ d. rank count d ≤ 0);
+    in_order = λ count. one_rank (rank count) [] 0 (All-nil (λ d. rank count d ≡ 0));
     settled = λ k stage lt e. absurd (omega (arith, lt));
     arrived = refl;
   }
@@ -267,8 +305,18 @@ module _ {V T O R K U D Table Owner : Type 0} (theory : Theory V O R K Table D O
       → HaveGoneOn theory kind rules (n + 1) (a || b) old new was now
   gone_on_more n a b old mid new was between now f s =
       let trusts : mid.trusts.items ≡ old.trusts.items = ap (λ v. v.items) f.have.rest.trusts in
+      let deeds = moved_deeds a b old mid new was between now f.have s.have in
       record {
         have = moved_then a b old mid new was between now f.have s.have;
+        ranks = λ count.
+            All-same (λ d. rank count d ≤ n + 1) (moved_then a b old mid new was between now f.have s.have).deeds (f.have.deeds ++ s.have.deeds) deeds
+            (All-append (λ d. rank count d ≤ n + 1) f.have.deeds s.have.deeds
+            (All-weaker (λ d. rank count d ≤ n) (λ d. rank count d ≤ n + 1) (λ d h. omega (arith, h)) f.have.deeds (f.ranks count))
+            (All-weaker (λ d. rank count d ≡ n + 1) (λ d. rank count d ≤ n + 1) (λ d h. omega (arith, h)) s.have.deeds (s.ranks count)));
+        in_order = λ count.
+            subst (IsNonDecreasingBy (rank count)) (sym deeds)
+            (rising_joined (rank count) f.have.deeds s.have.deeds n (f.in_order count) (one_rank (rank count) s.have.deeds (n + 1) (s.ranks count)) (f.ranks count)
+            (All-weaker (λ d. rank count d ≡ n + 1) (λ d. n ≤ rank count d) (λ d h. omega (arith, h)) s.have.deeds (s.ranks count)));
         settled = λ k stage lt e.
             elim (cases_eq k n) [
               | inl same ↦ subst (λ ts. IsSettled now ts stage) trusts (s.settled stage (ap (slice_get new.stages.items) (sym same) ∙ e))
@@ -276,82 +324,4 @@ module _ {V T O R K U D Table Owner : Type 0} (theory : Theory V O R K Table D O
                   settled_more old.trusts.items between now stage s.more (f.settled k stage (omega (arith, lt, ne)) (sym (s.others k ne) ∙ e))
             ];
         arrived = s.arrived ∙ f.arrived;
-      }
-
-  -- no turn was made where nothing counts
-  pub turns_none : (busy : List ℕ) (tasks : Tasks V T O R K U) (books : Books V ℕ D O R K) (tables : List Table) → busy ≡ []
-      → HaveMadeTurns theory kind rules busy false tasks tasks books books tables tables
-  turns_none busy tasks books tables e = record {
-    deeds = [];
-    told = sym (append_nil tasks.told.items);
-    runs = runs_none theory kind rules tasks.trusts.items (world_of tasks books tables);
-    moves = refl;
-    turns = sym e;
-    went_is = refl;
-    pending = λ none empty. (ap all_pending (sym e), empty);
-    counting = λ t. refl;
-    stages = refl;
-    many = refl;
-    rest = rest_same tasks;
-  }
-
-  went_one : (t : ℕ) (turn : Turn) → has_gone turn ≡ is_some (went_in ((t, turn) ∷ []))
-  went_one t (Sent m) = refl
-  went_one t (GotSome m) = refl
-  went_one t Pending = refl
-  went_one t Idle = refl
-
-  pub turns_one : (openings : ℕ → State V O R K) (t : ℕ) (turn : Turn) (before after : Table) (old new : Tasks V T O R K U) (was now : Books V ℕ D O R K)
-      (tables later : List Table) (went : Bool) → went ≡ has_gone turn → IsClient theory.client_view openings was → HasTurned theory kind t turn before after was now → 1 ≤ counting_at was t
-      → slice_get tables t ≡ Some before → later ≡ slice_set tables t after → new.told.items ≡ old.told.items ++ Turned t turn ∷ []
-      → new.stages.items ≡ old.stages.items → KeepsRest old new
-      → HaveMadeTurns theory kind rules (busy_at was t) went old new was now tables later
-  turns_one openings t turn before after old new was now tables later went gone is turned some of set told stages rest =
-      let one = busy_one was t some in
-      record {
-        deeds = Turned t turn ∷ [];
-        told = told;
-        runs =
-            runs_one theory kind rules old.trusts.items (Turned t turn) (world_of old was tables) (world_of new now later)
-            (record { steps = stages; calls = record { table = before; becomes = after; of_table = of; turned = turned; tables = set } });
-        moves = refl;
-        turns = sym one;
-        went_is = gone ∙ went_one t turn;
-        pending = λ none empty.
-            let (pending, left) = turned_pending theory kind openings t turn before after was now is turned (sym gone ∙ none) empty some in
-            (ap (λ x. (t, x) ∷ []) pending ∙ ap all_pending (sym one), left);
-        counting = turned_counting theory kind t turn before after was now turned;
-        stages = stages;
-        many = ap length set ∙ length-set tables t after;
-        rest = rest;
-      }
-
-  pub turns_then : (first busy : List ℕ) (a b : Bool) (old mid new : Tasks V T O R K U) (was between now : Books V ℕ D O R K) (before through after : List Table)
-      → HaveMadeTurns theory kind rules first a old mid was between before through → HaveMadeTurns theory kind rules busy b mid new between now through after
-      → HaveMadeTurns theory kind rules (first ++ busy) (a || b) old new was now before after
-  turns_then first busy a b old mid new was between now before through after f s =
-      let appended = turns_append f.deeds s.deeds in
-      record {
-        deeds = f.deeds ++ s.deeds;
-        told = s.told ∙ ap (λ l. l ++ s.deeds) f.told ∙ append_assoc old.told.items f.deeds s.deeds;
-        runs =
-            runs_then theory kind rules old.trusts.items f.deeds s.deeds (world_of old was before)
-            (world_of mid between through) (world_of new now after) f.runs
-            (subst (λ (ts : List Trust). Runs theory kind rules ts s.deeds (world_of mid between through) (world_of new now after))
-            (ap (λ v. v.items) f.rest.trusts) s.runs);
-        moves = let both = moves_append f.deeds s.deeds in let x = f.moves in let y = s.moves in omega (arith, both, x, y);
-        turns = ap (map (λ turn. turn.0)) appended ∙ firsts_append (turns_in f.deeds) (turns_in s.deeds)
-            ∙ ap (λ l. l ++ map (λ turn. turn.0) (turns_in s.deeds)) f.turns ∙ ap (λ l. first ++ l) s.turns;
-        went_is = ap (λ x. x || b) f.went_is ∙ ap (λ x. is_some (went_in (turns_in f.deeds)) || x) s.went_is
-            ∙ sym (some_of_two (went_in (turns_in f.deeds)) (went_in (turns_in s.deeds)))
-            ∙ ap is_some (sym (went_append (turns_in f.deeds) (turns_in s.deeds))) ∙ ap (λ l. is_some (went_in l)) (sym appended);
-        pending = λ none empty.
-            let (x, y) = or_none a b none in
-            let (here, left) = f.pending x empty in
-            let (there, last) = s.pending y left in
-            (appended ∙ ap (λ l. l ++ turns_in s.deeds) here ∙ ap (λ l. all_pending first ++ l) there ∙ sym (pending_append first busy), last);
-        counting = λ t. s.counting t ∙ f.counting t;
-        stages = s.stages ∙ f.stages;
-        many = s.many ∙ f.many;
-        rest = rest_then old mid new f.rest s.rest;
       }

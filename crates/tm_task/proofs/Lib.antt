@@ -2,8 +2,11 @@ mod Asks
 mod Busy
 mod Chains
 mod Doing
+mod MadeTurns
 mod Places
 mod Ranges
+mod Ranks
+mod Resumed
 pub mod Theirs
 mod WholeTurn
 mod Worlds

@@ -1,7 +1,10 @@
 -- A whole turn of tasks, of its parts.
 use Rattle.std.proofs.Common.{◌≡◌, ◌≢◌, ℕ, zero, suc, ◌+◌, ◌≤◌, ◌<◌, Bool, true, false, List, [], ◌∷◌, ◌++◌, length, length-append, append_assoc, map, refl, sym, ◌∙◌, ap, subst, arith}
 use Rattle.std.specs.Prelude.{◌||◌, vec_capacity, slice_get}
+use Rattle.std.specs.List.{All}
+use Rattle.std.specs.List.Sorted.{IsNonDecreasingBy}
 use Rattle.std.specs.declared.option.Option.TheVariants.{Some}
+use Rattle.std.proofs.lemmas.List.Elements.{All-append, All-same, All-weaker}
 use Rattle.std.proofs.lemmas.Option.{slice_get_within}
 use Rattle.tm_seq.specs.Kind.{Kind}
 use Rattle.tm_model.specs.State.{State}
@@ -15,16 +18,18 @@ use Rattle.tm_task.specs.declared.stage.Stage.{Stage}
 use Rattle.tm_task.specs.declared.stage.Stage.TheVariants.{Fresh}
 use Rattle.tm_task.specs.declared.tasks.Tasks.{Tasks}
 use Rattle.tm_task.specs.declared.turning.Progress.{Progress}
-use Rattle.tm_task.specs.Going.{AreInRange, KeepsRest, ProgressOf, HaveMoved, HaveGoneOn, HaveMadeTurns, is_some}
+use Rattle.tm_task.specs.Going.{AreInRange, KeepsRest, ProgressOf, HaveMoved, HaveAnswered, HaveGoneOn, HaveMadeTurns, is_some}
 use Rattle.tm_task.specs.Ours.{AreTables, AreTheirs, HoldsOpen}
-use Rattle.tm_task.specs.Progressing.{IsSettled, moves_in, turns_in, went_in, busy_below, all_pending, world_of, Tells, HaveTurned}
+use Rattle.tm_task.specs.Progressing.{IsSettled, moves_in, rank, resumed_in, turns_in, went_in, busy_below, all_pending, world_of, Tells, HaveTurned}
 use Rattle.tm_task.specs.Rules.{Rules}
 use Rattle.tm_task.specs.Runs.{Runs}
 use Rattle.tm_task.specs.Stages.{ended_in, Goes, AreTasks}
 use Rattle.tm_task.proofs.Busy.{same_busy, busy_some, counting_within, some_counts}
 use Rattle.tm_task.proofs.Chains.{moves_append, turns_append, some_of_two, or_none, goes_then, runs_then, runs_goes}
-use Rattle.tm_task.proofs.Doing.{settled_more, moved_then}
+use Rattle.tm_task.proofs.Doing.{moved_deeds, moved_then, settled_more}
 use Rattle.tm_task.proofs.Ranges.{all_in_range, going_in_range}
+use Rattle.tm_task.proofs.Ranks.{one_rank, rising_joined}
+use Rattle.tm_task.proofs.Resumed.{afters_of, none_resumed, resumed_append, resumed_are}
 use Rattle.tm_task.proofs.Theirs.{theirs_then}
 use Rattle.tm_task.proofs.Worlds.{holds_then, tables_then}
 
@@ -147,11 +152,11 @@ module _ {V T O R K U D Table Owner : Type 0} (theory : Theory V O R K Table D O
   module _ (openings : ℕ → State V O R K) (resumed started went ended : Bool) (progress : Progress) (old first mid new : Tasks V T O R K U)
       (was between through now : Books V ℕ D O R K) (before after : List Table)
       (tasks : AreTasks rules old) (theirs : AreTheirs old.trusts.items old.stages.items was) (tables : AreTables theory openings was before)
-      (client : IsClient theory.client_view openings through) (took : HaveMoved theory kind rules resumed old first was between)
+      (client : IsClient theory.client_view openings through) (took : HaveAnswered theory kind rules resumed old first was between)
       (none : between.arrived.items ≡ []) (on : HaveGoneOn theory kind rules (length first.stages.items) started first mid between through)
       (made : HaveMadeTurns theory kind rules (busy_below through (length before)) went mid new through now before after) where
     both : HaveMoved theory kind rules (resumed || started) old mid was through
-    both = moved_then theory kind rules resumed started old first mid was between through took on.have
+    both = moved_then theory kind rules resumed started old first mid was between through took.have on.have
 
     empty : through.arrived.items ≡ []
     empty = ap (λ b. b.items) on.arrived ∙ none
@@ -178,8 +183,41 @@ module _ {V T O R K U D Table Owner : Type 0} (theory : Theory V O R K Table D O
         let many = here.as_many in
         busy_some through t (length before) some (omega (arith, lt, many))
 
-    all_deeds : List (Deed V T U O R K)
-    all_deeds = both.deeds ++ made.deeds
+    -- what had come was handed out
+    resumed_is : resumed_in (both.deeds ++ made.deeds) ≡ afters_of was
+    resumed_is =
+        resumed_append both.deeds made.deeds ∙ ap (λ l. resumed_in both.deeds ++ l) (none_resumed made.deeds made.moves)
+        ∙ sym
+        (resumed_are theory kind rules old.trusts.items both.deeds (world_of old was before) (world_of mid through before) both.turns (both.runs before)
+        ∙ ap (λ l. resumed_in both.deeds ++ map (λ a. a.after) l) empty)
+
+    -- first that, then the tasks went on by their numbers
+    both_rise : (count : ℕ) → IsNonDecreasingBy (rank count) both.deeds
+    unfolding both
+    both_rise count =
+        subst (IsNonDecreasingBy (rank count)) (sym (moved_deeds theory kind rules resumed started old first mid was between through took.have on.have))
+        (rising_joined (rank count) took.have.deeds on.have.deeds 0 (one_rank (rank count) took.have.deeds 0 (took.ranks count)) (on.in_order count)
+        (All-weaker (λ d. rank count d ≡ 0) (λ d. rank count d ≤ 0) (λ d h. omega (arith, h)) took.have.deeds (took.ranks count))
+        (All-weaker (λ d. rank count d ≤ length first.stages.items) (λ d. 0 ≤ rank count d) (λ d h. omega arith) on.have.deeds (on.ranks count)))
+
+    both_within : (count : ℕ) → All (λ d. rank count d ≤ length old.stages.items) both.deeds
+    unfolding both
+    both_within count =
+        let many = took.have.many in
+        All-same (λ d. rank count d ≤ length old.stages.items) both.deeds (took.have.deeds ++ on.have.deeds)
+        (moved_deeds theory kind rules resumed started old first mid was between through took.have on.have)
+        (All-append (λ d. rank count d ≤ length old.stages.items) took.have.deeds on.have.deeds
+        (All-weaker (λ d. rank count d ≡ 0) (λ d. rank count d ≤ length old.stages.items) (λ d h. omega (arith, h)) took.have.deeds (took.ranks count))
+        (All-weaker (λ d. rank count d ≤ length first.stages.items) (λ d. rank count d ≤ length old.stages.items) (λ d h. omega (arith, h, many)) on.have.deeds
+        (on.ranks count)))
+
+    -- and last the client made its turns
+    all_rise : IsNonDecreasingBy (rank (length old.stages.items)) (both.deeds ++ made.deeds)
+    all_rise =
+        let count = length old.stages.items in
+        rising_joined (rank count) both.deeds made.deeds count (both_rise count) (one_rank (rank count) made.deeds (count + 1) (made.ranks count))
+        (both_within count)
+        (All-weaker (λ d. rank count d ≡ count + 1) (λ d. count ≤ rank count d) (λ d h. omega (arith, h)) made.deeds (made.ranks count))
 
     settled_is : (n : ℕ) (stage : Stage V T U O R K) → slice_get new.stages.items n ≡ Some stage → IsSettled now old.trusts.items stage
     settled_is n stage e =
@@ -187,7 +225,7 @@ module _ {V T O R K U D Table Owner : Type 0} (theory : Theory V O R K Table D O
         let many = on.have.many in
         let lt = slice_get_within mid.stages.items n stage at in
         let here : IsSettled through old.trusts.items stage =
-        subst (λ (ts : List Trust). IsSettled through ts stage) (ap (λ v. v.items) took.rest.trusts) (on.settled n stage (omega (arith, many, lt)) at) in
+        subst (λ (ts : List Trust). IsSettled through ts stage) (ap (λ v. v.items) took.have.rest.trusts) (on.settled n stage (omega (arith, many, lt)) at) in
         settled_more theory kind rules old.trusts.items through now stage (λ t. let same = made.counting t in omega (arith, same)) here
 
     pub have_turned : ProgressOf ended ((resumed || started) || went) progress → (ended ≡ true → ended_in new.stages.items ≡ length new.stages.items)
@@ -209,6 +247,8 @@ module _ {V T O R K U D Table Owner : Type 0} (theory : Theory V O R K Table D O
               (world_of mid through before) (world_of new now after) (both.runs before)
               (subst (λ (ts : List Trust). Runs theory kind rules ts made.deeds (world_of mid through before)
               (world_of new now after)) trusts made.runs);
+          resumed = resumed_is;
+          in_order = all_rise;
           turns = ap (map (λ turn. turn.0)) turns ∙ made.turns ∙ sym busy;
           settled = settled_is;
           tells =
@@ -223,6 +263,7 @@ module _ {V T O R K U D Table Owner : Type 0} (theory : Theory V O R K Table D O
               let here : ended_in mid.stages.items ≢ length mid.stages.items =
               λ same. ne (ap (λ l. ended_in l) made.stages ∙ same ∙ sym (ap length made.stages)) in
               (subst (λ l. l ≢ []) (sym busy) (busy_is here), turns ∙ pending ∙ ap all_pending (sym busy)));
+          many = ap length made.stages ∙ both.many;
           trusts = made.rest.trusts ∙ both.rest.trusts;
           room = made.rest.room ∙ both.rest.room;
         }

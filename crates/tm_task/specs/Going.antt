@@ -1,5 +1,7 @@
 -- What the parts of a turn of tasks do.
-use Rattle.std.specs.Prelude.{◌≡◌, ◌≢◌, ℕ, zero, suc, ◌<◌, ◌≤◌, ◌⊎◌, Bool, true, false, List, [], ◌∷◌, ◌++◌, length, map, vec_capacity, slice_get}
+use Rattle.std.specs.Prelude.{◌≡◌, ◌≢◌, ℕ, zero, suc, ◌+◌, ◌<◌, ◌≤◌, ◌⊎◌, Bool, true, false, List, [], ◌∷◌, ◌++◌, length, map, vec_capacity, slice_get}
+use Rattle.std.specs.List.{All}
+use Rattle.std.specs.List.Sorted.{IsNonDecreasingBy}
 use Rattle.std.specs.declared.option.Option.TheVariants.{Some}
 use Rattle.tm_seq.specs.Kind.{Kind}
 use Rattle.tm_batch.specs.declared.limits.TheConstants.{WINDOW}
@@ -19,7 +21,7 @@ use Rattle.tm_task.specs.declared.task.Move.{Move}
 use Rattle.tm_task.specs.declared.tasks.Tasks.{Tasks}
 use Rattle.tm_task.specs.declared.turning.Progress.{Progress}
 use Rattle.tm_task.specs.declared.turning.Progress.TheVariants.{Moved, Pending as StillPending, AllEnded}
-use Rattle.tm_task.specs.Progressing.{IsSettled, moves_in, turns_in, went_in, counting_at, all_pending, world_of}
+use Rattle.tm_task.specs.Progressing.{IsSettled, moves_in, rank, turns_in, went_in, counting_at, all_pending, world_of}
 use Rattle.tm_task.specs.Rules.{Rules}
 use Rattle.tm_task.specs.Runs.{Runs}
 use Rattle.tm_task.specs.Stages.{IsStarted, IsAsked, IsResumed}
@@ -122,17 +124,25 @@ module _ {V T O R K U D Table Owner : Type 0} (theory : Theory V O R K Table D O
     pub many : length new.stages.items ≡ length old.stages.items
     pub rest : KeepsRest old new
 
+  -- answers were handed to the tasks that wait for them, and nothing else was done
+  pub record HaveAnswered (moved : Bool) (old new : Tasks V T O R K U) (was now : Books V ℕ D O R K) : Type 0 where
+    pub have : HaveMoved moved old new was now
+    pub ranks : (count : ℕ) → All (λ d. rank count d ≡ 0) have.deeds
+
   -- task n was started if it was not, and what it is to ask was asked, unless the window there is full
   pub record HasGoneOnAt (n : ℕ) (moved : Bool) (old new : Tasks V T O R K U) (was now : Books V ℕ D O R K) : Type 0 where
     pub have : HaveMoved moved old new was now
+    pub ranks : (count : ℕ) → All (λ d. rank count d ≡ n + 1) have.deeds
     pub settled : (stage : Stage V T U O R K) → slice_get new.stages.items n ≡ Some stage → IsSettled now old.trusts.items stage
     pub others : (k : ℕ) → k ≢ n → slice_get new.stages.items k ≡ slice_get old.stages.items k
     pub arrived : now.arrived ≡ was.arrived
     pub more : (t : ℕ) → counting_at was t ≤ counting_at now t
 
-  -- so for each task below n
+  -- so for each task below n, in the order of the numbers
   pub record HaveGoneOn (n : ℕ) (moved : Bool) (old new : Tasks V T O R K U) (was now : Books V ℕ D O R K) : Type 0 where
     pub have : HaveMoved moved old new was now
+    pub ranks : (count : ℕ) → All (λ d. rank count d ≤ n) have.deeds
+    pub in_order : (count : ℕ) → IsNonDecreasingBy (rank count) have.deeds
     pub settled : (k : ℕ) (stage : Stage V T U O R K) → k < n → slice_get new.stages.items k ≡ Some stage → IsSettled now old.trusts.items stage
     pub arrived : now.arrived ≡ was.arrived
 
@@ -143,6 +153,7 @@ module _ {V T O R K U D Table Owner : Type 0} (theory : Theory V O R K Table D O
     pub told : new.told.items ≡ old.told.items ++ deeds
     pub runs : Runs theory kind rules old.trusts.items deeds (world_of old was before) (world_of new now after)
     pub moves : moves_in deeds ≡ 0
+    pub ranks : (count : ℕ) → All (λ d. rank count d ≡ count + 1) deeds
     pub turns : map (λ turn. turn.0) (turns_in deeds) ≡ busy
     pub went_is : went ≡ is_some (went_in (turns_in deeds))
     pub pending : went ≡ false → was.arrived.items ≡ [] → (turns_in deeds ≡ all_pending busy) × (now.arrived.items ≡ [])

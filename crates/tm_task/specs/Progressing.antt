@@ -1,5 +1,6 @@
 -- What a turn of tasks says that it did.
 use Rattle.std.specs.Prelude.{◌≡◌, ◌≢◌, ℕ, zero, suc, ◌+◌, ◌≤◌, ◌==◌, cond, List, [], ◌∷◌, ◌++◌, length, map, slice_get}
+use Rattle.std.specs.List.Sorted.{IsNonDecreasingBy}
 use Rattle.std.specs.declared.option.Option.{Option}
 use Rattle.std.specs.declared.option.Option.TheVariants.{None, Some}
 use Rattle.tm_seq.specs.Kind.{Kind}
@@ -11,7 +12,7 @@ use Rattle.tm_client.specs.declared.books.Books.{Books}
 use Rattle.tm_client.specs.declared.lane.Lane.{Lane}
 use Rattle.tm_client.specs.declared.trust.Trust.{Trust}
 use Rattle.tm_task.specs.declared.deed.Deed.{Deed}
-use Rattle.tm_task.specs.declared.deed.Deed.TheVariants.{Started, Resumed, Turned}
+use Rattle.tm_task.specs.declared.deed.Deed.TheVariants.{Added, Started, Asked, Resumed, Turned}
 use Rattle.tm_task.specs.declared.stage.Stage.{Stage}
 use Rattle.tm_task.specs.declared.stage.Stage.TheVariants.{Fresh, Asks}
 use Rattle.tm_task.specs.declared.tasks.Tasks.{Tasks}
@@ -28,6 +29,21 @@ module _ {V T U O R K : Type 0} where
   moves_in (Started n move ∷ deeds) = 1 + moves_in deeds
   moves_in (Resumed n got move ∷ deeds) = 1 + moves_in deeds
   moves_in (_ ∷ deeds) = moves_in deeds
+
+  -- the tasks that went on with an answer, in order
+  abbrev pub resumed_in : List (Deed V T U O R K) → List ℕ
+  resumed_in [] = []
+  resumed_in (Resumed n got move ∷ deeds) = n ∷ resumed_in deeds
+  resumed_in (_ ∷ deeds) = resumed_in deeds
+
+  -- where a deed stands in a turn of so many tasks: first an answer, then what is started or asked, by the task's number, and last a turn
+  -- of the client
+  abbrev pub rank : ℕ → Deed V T U O R K → ℕ
+  rank count (Resumed n got move) = 0
+  rank count (Started n move) = n + 1
+  rank count (Asked n i op) = n + 1
+  rank count (Turned t turn) = count + 1
+  rank count (Added task) = count + 1
 
   -- the turns that the client made: at which trustees, and what they said
   abbrev pub turns_in : List (Deed V T U O R K) → List (ℕ × Turn)
@@ -89,10 +105,15 @@ module _ {V T O R K U D Table Owner : Type 0} (theory : Theory V O R K Table D O
     pub deeds : List (Deed V T U O R K)
     pub told : new.told.items ≡ old.told.items ++ deeds
     pub runs : Runs theory kind rules old.trusts.items deeds (world_of old was before) (world_of new now after)
+    -- each answer that had come was handed to its task, in the order in which they came, and no other
+    pub resumed : resumed_in deeds ≡ map (λ a. a.after) was.arrived.items
+    -- the answers came first, then the tasks went on by their numbers, and last the client made its turns
+    pub in_order : IsNonDecreasingBy (rank (length old.stages.items)) deeds
     -- one turn was made at each trustee where a request counts, in order, and no other
     pub turns : map (λ turn. turn.0) (turns_in deeds) ≡ busy_below now (length after)
     -- each task was started, and what one asks was asked, unless the window is full
     pub settled : (n : ℕ) (stage : Stage V T U O R K) → slice_get new.stages.items n ≡ Some stage → IsSettled now old.trusts.items stage
     pub tells : Tells progress deeds new.stages.items (busy_below now (length after))
+    pub many : length new.stages.items ≡ length old.stages.items
     pub trusts : new.trusts ≡ old.trusts
     pub room : new.room ≡ old.room

@@ -1,6 +1,6 @@
 //! The turns of tasks.
 ghost use Rattle.std.specs.Prelude.{◌≡◌, ◌<◌, ◌||◌, [], length};
-ghost use Rattle.tm_task.specs.Going.{AreInRange, HasGoneOnAt, HasResumed, HasStarted, HaveGoneOn, HaveMadeTurns, HaveMoved, IsFreshAt, IsWaitingAt, MayAsk, MayStart, ProgressOf, has_gone};
+ghost use Rattle.tm_task.specs.Going.{AreInRange, HasGoneOnAt, HasResumed, HasStarted, HaveAnswered, HaveGoneOn, HaveMadeTurns, IsFreshAt, IsWaitingAt, MayAsk, MayStart, ProgressOf, has_gone};
 ghost use Rattle.tm_task.specs.Ours.{AreOfClient, AreTheirs, HoldsOpen, IsOne, KeepsTables, StaysOne};
 ghost use Rattle.tm_task.specs.Progressing.{HaveTurned, busy_at, busy_below};
 ghost use Rattle.tm_task.specs.Stages.{AreTasks, stage_of};
@@ -75,9 +75,10 @@ fn stage_of<S: Entrusted, T: Drop, O: Drop>(count: usize, next: Move<S, T, O>) -
 
 impl<S: FitsBatches, T: Task<S>> Tasks<S, T> {
     /// Makes a turn of all tasks, through the client that holds their trusts. `tables` are the tables of its trustees, in
-    /// order. Each answer that came resumes its task, each task that was not started is, and what a task asks is asked of
-    /// the client, unless the window of its trustee is full: then it waits for a later turn. Then the client
-    /// makes its turn at each trustee where a request counts.
+    /// order. First each answer that came resumes its task, in the order in which they came. Then, in the order of their
+    /// numbers, each task that was not started is, and what a task asks is asked of the client, unless the window of its
+    /// trustee is full: then it waits for a later turn. Last the client makes its turn at each trustee where a request
+    /// counts, in their order.
     ///
     /// It looks at each task, allocates nothing and never waits, besides what the tasks themselves do.
     pub fn turn<P: PairTable<S>>(
@@ -108,7 +109,7 @@ impl<S: FitsBatches, T: Task<S>> Tasks<S, T> {
         requires tasks { AreTasks T.rules self.old }
         requires theirs { AreTheirs self.old.trusts.items self.old.stages.items client.old.books }
         requires client { IsOne P.theory.client_view client.old.books }
-        ensures moved { HaveMoved P.theory S.kind T.rules result self.old self.new client.old.books client.new.books }
+        ensures moved { HaveAnswered P.theory S.kind T.rules result self.old self.new client.old.books client.new.books }
         ensures none { client.new.books.arrived.items ≡ [] }
         ensures client { StaysOne P.theory.client_view client.old.books client.new.books }
     {

@@ -1,4 +1,4 @@
-use Rattle.std.proofs.Common.{◌+◌, sym, subst}
+use Rattle.std.proofs.Common.{◌≡◌, ◌+◌, length, sym, subst, arith}
 use Rattle.tm_task.specs.Going.{HaveGoneOn}
 use Rattle.tm_task.proofs.Doing.{gone_on_more, gone_on_none}
 use Rattle.tm_task.proofs.WholeTurn.{holds_moved, range_moved}
@@ -34,3 +34,14 @@ loop-number-preserved g c =
           (sym c.is_either-started.ensures) more,
       λ openings is. c.go_on_at-fresh.ensures.client openings (c.loop-number.invariant.1 openings is),
     )
+
+pub returns-clause-all : goal.returns-clause-all
+returns-clause-all g c =
+    let many = c.len-count.ensures in
+    let last = c.loop-number.auto.number-end in
+    let past = c.loop-number-test.false in
+    let all : c.loop-number.number ≡ length c.args.self.now.stages.items = omega (arith, many, last, past) in
+    subst
+    (λ n. HaveGoneOn g.P.PairTable.theory g.S.Entrusted.kind g.T.Task.rules n c.loop-number.started c.args.self.now c.loop-number.self
+    c.args.client.now.books c.loop-number.client.books)
+    all c.loop-number.invariant.0

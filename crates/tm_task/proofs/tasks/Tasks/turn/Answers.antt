@@ -8,12 +8,12 @@ pub go_on-started-requires-clause-in_range : goal.go_on-started-requires-clause-
 go_on-started-requires-clause-in_range g c =
     tasks_in_range g.T.Task.rules c.take_answers-resumed.new.self
     (tasks_moved g.P.PairTable.theory g.S.Entrusted.kind g.T.Task.rules c.take_answers-resumed.result c.args.self.now c.take_answers-resumed.new.self
-    c.args.client.now.books c.take_answers-resumed.new.client.books c.requires.tasks c.take_answers-resumed.ensures.moved)
+    c.args.client.now.books c.take_answers-resumed.new.client.books c.requires.tasks c.take_answers-resumed.ensures.moved.have)
 
 pub go_on-started-requires-clause-holds : goal.go_on-started-requires-clause-holds
 go_on-started-requires-clause-holds g c =
     holds_moved g.P.PairTable.theory g.S.Entrusted.kind g.T.Task.rules c.take_answers-resumed.result c.args.self.now c.take_answers-resumed.new.self
-    c.args.client.now.books c.take_answers-resumed.new.client.books c.take_answers-resumed.ensures.moved c.requires.holds
+    c.args.client.now.books c.take_answers-resumed.new.client.books c.take_answers-resumed.ensures.moved.have c.requires.holds
 
 pub go_on-started-requires-clause-client : goal.go_on-started-requires-clause-client
 go_on-started-requires-clause-client g c =
@@ -24,7 +24,7 @@ turn_all-went-requires g c =
     let (openings, are, is) = c.requires.client in
     let first =
     tables_moved g.P.PairTable.theory g.S.Entrusted.kind g.T.Task.rules openings c.args.tables.now c.take_answers-resumed.result c.args.self.now
-    c.take_answers-resumed.new.self c.args.client.now.books c.take_answers-resumed.new.client.books c.take_answers-resumed.ensures.moved are in
+    c.take_answers-resumed.new.self c.args.client.now.books c.take_answers-resumed.new.client.books c.take_answers-resumed.ensures.moved.have are in
     let through =
     tables_moved g.P.PairTable.theory g.S.Entrusted.kind g.T.Task.rules openings c.args.tables.now c.go_on-started.result c.take_answers-resumed.new.self
     c.go_on-started.new.self c.take_answers-resumed.new.client.books c.go_on-started.new.client.books c.go_on-started.ensures.all.have first in
@@ -77,7 +77,7 @@ pub returns-clause-client : goal.returns-clause-client
 returns-clause-client g c = λ openings are is.
     let first =
     tables_moved g.P.PairTable.theory g.S.Entrusted.kind g.T.Task.rules openings c.args.tables.now c.take_answers-resumed.result c.args.self.now
-    c.take_answers-resumed.new.self c.args.client.now.books c.take_answers-resumed.new.client.books c.take_answers-resumed.ensures.moved are in
+    c.take_answers-resumed.new.self c.args.client.now.books c.take_answers-resumed.new.client.books c.take_answers-resumed.ensures.moved.have are in
     let through =
     tables_moved g.P.PairTable.theory g.S.Entrusted.kind g.T.Task.rules openings c.args.tables.now c.go_on-started.result c.take_answers-resumed.new.self
     c.go_on-started.new.self c.take_answers-resumed.new.client.books c.go_on-started.new.client.books c.go_on-started.ensures.all.have first in

@@ -3,7 +3,7 @@ use Rattle.std.specs.Prelude.{◌||◌}
 use Rattle.tm_task.specs.Going.{HaveMadeTurns}
 use Rattle.tm_task.specs.Progressing.{busy_at, busy_below}
 use Rattle.tm_task.proofs.Busy.{same_busy_at}
-use Rattle.tm_task.proofs.Doing.{turns_none, turns_then}
+use Rattle.tm_task.proofs.MadeTurns.{turns_none, turns_then}
 use Rattle.tm_task.proofs.tasks.Tasks.turn_all.Goals as goal
 
 pub loop-trustee-init : goal.loop-trustee-init

@@ -2,7 +2,7 @@ use Rattle.std.proofs.Common.{◌≤◌, slice_index_or, refl, arith}
 use Rattle.std.proofs.lemmas.Option.{slice_get-get_or}
 use Rattle.tm_task.specs.Progressing.{counting_at}
 use Rattle.tm_task.proofs.Busy.{idle_at, counting_is}
-use Rattle.tm_task.proofs.Doing.{turns_none, turns_one}
+use Rattle.tm_task.proofs.MadeTurns.{turns_none, turns_one}
 use Rattle.tm_task.proofs.Worlds.{may_turn, tables_turned}
 use Rattle.tm_task.proofs.tasks.Tasks.turn_at.Goals as goal
 
