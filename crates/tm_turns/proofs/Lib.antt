@@ -47,3 +47,4 @@ pub mod Counting
 pub mod Taken
 pub mod Ended
 pub mod Closed
+pub mod Launched

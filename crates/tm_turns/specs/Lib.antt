@@ -4,3 +4,4 @@ pub mod Resting
 pub mod Opening
 pub mod Making
 pub mod Closing
+pub mod Laws

@@ -1,2 +1,3 @@
 pub mod Calling
+mod Launched
 mod Ones

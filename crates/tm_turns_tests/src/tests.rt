@@ -4,3 +4,4 @@ mod adding;
 mod building;
 mod closing;
 mod first_program;
+mod launching;
