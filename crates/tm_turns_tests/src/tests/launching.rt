@@ -30,7 +30,7 @@ fn counters(alloc: Global) -> Result<Vec<First<Counter>>, AllocError> {
         value: Counter { value: 7 },
         holders: Holders::new(vec![in alloc; 1, 2]?),
     };
-    vec![in alloc; least, middle, greatest]
+    Ok(vec![in alloc; least, middle, greatest]?)
 }
 
 /// One client and three trustees with these counters, and the client's trusts: that of trustee 0's, and that of trustee 1's.
