@@ -1,6 +1,6 @@
 -- The answers that tasks get in a turn, and what they do then.
-use Rattle.std.proofs.Common.{◌≡◌, ◌≢◌, ℕ, ◌+◌, ◌≤◌, inl, inr, Bool, true, false, cond, List, [], ◌∷◌, ◌++◌, length, length-set, append_assoc, map, refl, sym, ◌∙◌, ap, subst, arith}
-use Rattle.std.specs.Prelude.{◌||◌, nat_lt, slice_get, slice_set}
+use Rattle.std.proofs.Common.{◌≡◌, ◌≢◌, ℕ, ◌+◌, ◌<◌, ◌≤◌, inl, inr, Bool, true, false, cond, List, [], ◌∷◌, ◌++◌, length, length-set, append_assoc, refl, sym, ◌∙◌, ap, subst, arith}
+use Rattle.std.specs.Prelude.{◌||◌, nat_lt, slice_get}
 use Rattle.std.specs.List.{All}
 use Rattle.std.specs.List.Sorted.{IsNonDecreasingBy}
 use Rattle.std.specs.declared.option.Option.TheVariants.{None, Some}
@@ -13,14 +13,15 @@ use Rattle.tm_client.specs.declared.answers.Got.{Got}
 use Rattle.tm_client.specs.declared.books.Books.{Books}
 use Rattle.tm_client.specs.declared.trust.Trust.{Trust}
 use Rattle.tm_client.specs.Taking.{HasTaken}
+use Rattle.tm_task.specs.declared.deed.Deed.{Deed}
 use Rattle.tm_task.specs.declared.deed.Deed.TheVariants.{Started, Asked, Resumed}
 use Rattle.tm_task.specs.declared.stage.Stage.{Stage}
 use Rattle.tm_task.specs.declared.stage.Stage.TheVariants.{Fresh, Asks, Waits, Ended}
 use Rattle.tm_task.specs.declared.task.Move.{Move}
 use Rattle.tm_task.specs.declared.task.Move.TheVariants.{Apply, Done}
 use Rattle.tm_task.specs.declared.tasks.Tasks.{Tasks}
-use Rattle.tm_task.specs.Going.{KeepsRest, HasStarted, HasResumed, MayStart, HasAskedAt, HasNotAsked, MayAsk, HaveMoved, HaveAnswered, HasGoneOnAt, HaveGoneOn, is_some}
-use Rattle.tm_task.specs.Progressing.{IsSettled, moves_in, rank, turns_in, counting_at, world_of}
+use Rattle.tm_task.specs.Going.{KeepsRest, HasStarted, HasResumed, MayStart, HasAskedAt, HasNotAsked, MayAsk, HaveMoved, HaveAnswered, HasGoneOnAt, HaveGoneOn, AsksWithRoom, is_some}
+use Rattle.tm_task.specs.Progressing.{AsksBefore, IsSettled, IsUnpassed, moves_in, rank, turns_in, counting_at, world_of}
 use Rattle.tm_task.specs.Rules.{Rules}
 use Rattle.tm_task.specs.Runs.{World, Runs}
 use Rattle.tm_task.specs.Stages.{is_fresh, stage_of}
@@ -28,6 +29,7 @@ use Rattle.tm_task.proofs.Asks.{asked_more}
 use Rattle.tm_task.proofs.Chains.{moves_append, turns_append, some_of_two, runs_then, runs_none, runs_one}
 use Rattle.tm_task.proofs.Places.{set_here, set_other, read_some}
 use Rattle.tm_task.proofs.Ranks.{one_rank, rising_joined}
+use Rattle.tm_task.proofs.Unpassed.{all_before, unpassed_none, unpassed_then, unpassed_settled}
 
 pub append_nil : {X : Type 0} (xs : List X) → xs ++ [] ≡ xs
 append_nil [] = refl
@@ -56,16 +58,18 @@ module _ {V T U O R K : Type 0} where
   fresh_there (Waits i task) e = absurd cc
   fresh_there (Ended out) e = absurd cc
 
-module _ {V T U O R K D : Type 0} where
-  -- a task that is to ask, at a trustee whose window is full
-  pub blocked_by : (stages : List (Stage V T U O R K)) (trusts : List Trust) (n i0 : ℕ) (op0 : O) (task0 : T) (books : Books V ℕ D O R K) (trust : Trust)
-      → slice_get stages n ≡ Some (Asks i0 op0 task0) → slice_get trusts i0 ≡ Some trust → WINDOW ≤ counting_at books trust.trustee
-      → (i : ℕ) (op : O) (task : T) → slice_get stages n ≡ Some (Asks i op task)
-      → (t : Trust) × (slice_get trusts i ≡ Some t) × (WINDOW ≤ counting_at books t.trustee)
-  blocked_by stages trusts n i0 op0 task0 books trust at of some i op task e =
-      let same : Asks i0 op0 task0 ≡ Asks i op task = read_some stages n (Asks i0 op0 task0) (Asks i op task) at e in
-      let is : i0 ≡ i = cc in
-      (trust, ap (λ k. slice_get trusts k) (sym is) ∙ of, some)
+module _ {V T U O R K D : Type 0} (trusts : List Trust) (books : Books V ℕ D O R K) (n : ℕ) (deeds : List (Deed V T U O R K)) where
+  -- these are of the start of task n: they ask nothing
+  record AreOfStart : Type 0 where
+    ranks : (count : ℕ) → All (λ d. rank count d ≡ n + 1) deeds
+    before : (t : ℕ) → All (AsksBefore trusts t n) deeds
+    with_room : All (AsksWithRoom trusts books) deeds
+
+  -- these are of the turn of task n, which left it at these stages
+  record AreOfTurn (stages : List (Stage V T U O R K)) : Type 0 where
+    ranks : (count : ℕ) → All (λ d. rank count d ≡ n + 1) deeds
+    unpassed : (stage : Stage V T U O R K) → slice_get stages n ≡ Some stage → IsUnpassed trusts deeds n stage
+    with_room : All (AsksWithRoom trusts books) deeds
 
 module _ {V T O R K U D Table Owner : Type 0} (theory : Theory V O R K Table D Owner) (kind : Kind V O R K) (rules : Rules V T U O R K) where
   pub moved_none : (tasks : Tasks V T O R K U) (books : Books V ℕ D O R K) → HaveMoved theory kind rules false tasks tasks books books
@@ -117,12 +121,26 @@ module _ {V T O R K U D Table Owner : Type 0} (theory : Theory V O R K Table D O
 
   -- what was done with a task that had its turn to be started, and that it alone was
   may_start_moves : (n : ℕ) (b : Bool) (old new : Tasks V T O R K U) (books : Books V ℕ D O R K) → MayStart rules n b old new
-      → (have : HaveMoved theory kind rules b old new books books) × ((count : ℕ) → All (λ d. rank count d ≡ n + 1) have.deeds)
+      → (have : HaveMoved theory kind rules b old new books books) × AreOfStart old.trusts.items books n have.deeds
   unfolding moved_none started_moves
-  may_start_moves n true old new books h = (started_moves n old new books h, λ count. All-push (λ d. rank count d ≡ n + 1) [] (Started n h.move) (All-nil (λ d. rank count d ≡ n + 1)) refl)
+  may_start_moves n true old new books h =
+      let one = Started n h.move in (
+        started_moves n old new books h,
+        record {
+          ranks = λ count. All-push (λ d. rank count d ≡ n + 1) [] one (All-nil (λ d. rank count d ≡ n + 1)) refl;
+          before = λ t. All-push (AsksBefore old.trusts.items t n) [] one (All-nil (AsksBefore old.trusts.items t n)) tt;
+          with_room = All-push (AsksWithRoom old.trusts.items books) [] one (All-nil (AsksWithRoom old.trusts.items books)) tt;
+        },
+      )
   may_start_moves n false old new books h =
-      subst (λ t. (have : HaveMoved theory kind rules false old t books books) × ((count : ℕ) → All (λ d. rank count d ≡ n + 1) have.deeds)) (sym h.0)
-      (moved_none old books, λ count. All-nil (λ d. rank count d ≡ n + 1))
+      subst (λ t. (have : HaveMoved theory kind rules false old t books books) × AreOfStart old.trusts.items books n have.deeds) (sym h.0) (
+        moved_none old books,
+        record {
+          ranks = λ count. All-nil (λ d. rank count d ≡ n + 1);
+          before = λ t. All-nil (AsksBefore old.trusts.items t n);
+          with_room = All-nil (AsksWithRoom old.trusts.items books);
+        },
+      )
 
   resumed_moves : (n : ℕ) (got : Got V O R K) (old new : Tasks V T O R K U) (was now : Books V ℕ D O R K) → HasResumed rules n got old new
       → HasTaken n got was now → HaveMoved theory kind rules true old new was now
@@ -193,10 +211,29 @@ module _ {V T O R K U D Table Owner : Type 0} (theory : Theory V O R K Table D O
   }
 
   may_ask_moves : (n : ℕ) (old new : Tasks V T O R K U) (was now : Books V ℕ D O R K) → MayAsk n old new was now
-      → (have : HaveMoved theory kind rules false old new was now) × ((count : ℕ) → All (λ d. rank count d ≡ n + 1) have.deeds)
+      → (have : HaveMoved theory kind rules false old new was now) × AreOfTurn old.trusts.items was n have.deeds new.stages.items
   unfolding asked_moves not_asked_moves
-  may_ask_moves n old new was now (inl h) = (asked_moves n old new was now h, λ count. All-push (λ d. rank count d ≡ n + 1) [] (Asked n h.i h.op) (All-nil (λ d. rank count d ≡ n + 1)) refl)
-  may_ask_moves n old new was now (inr h) = (not_asked_moves n old new was now h, λ count. All-nil (λ d. rank count d ≡ n + 1))
+  may_ask_moves n old new was now (inl h) =
+      let one = Asked n h.i h.op in
+      let here : slice_get new.stages.items n ≡ Some (Waits h.i h.steps.task) =
+      ap (λ l. slice_get l n) h.steps.now ∙ set_here old.stages.items n (Asks h.i h.op h.steps.task) (Waits h.i h.steps.task) h.steps.was in (
+        asked_moves n old new was now h,
+        record {
+          ranks = λ count. All-push (λ d. rank count d ≡ n + 1) [] one (All-nil (λ d. rank count d ≡ n + 1)) refl;
+          unpassed = λ stage at.
+              subst (λ s. IsUnpassed old.trusts.items (one ∷ []) n s) (read_some new.stages.items n (Waits h.i h.steps.task) stage here at) tt;
+          with_room = All-push (AsksWithRoom old.trusts.items was) [] one (All-nil (AsksWithRoom old.trusts.items was)) (λ trust of.
+              subst (λ x. counting_at was x.trustee < WINDOW) (read_some old.trusts.items h.i h.trust trust h.of_trust of) h.room_there);
+        },
+      )
+  may_ask_moves n old new was now (inr h) = (
+    not_asked_moves n old new was now h,
+    record {
+      ranks = λ count. All-nil (λ d. rank count d ≡ n + 1);
+      unpassed = λ stage at. unpassed_none old.trusts.items n stage;
+      with_room = All-nil (AsksWithRoom old.trusts.items was);
+    },
+  )
 
   -- a move never leaves a task fresh
   cond_not_fresh : (b : Bool) (x y : Stage V T U O R K) (other : T) → (x ≡ Fresh other → ⊥) → (y ≡ Fresh other → ⊥) → cond b x y ≡ Fresh other → ⊥
@@ -264,19 +301,33 @@ module _ {V T O R K U D Table Owner : Type 0} (theory : Theory V O R K Table D O
       let (first, alone) = may_start_moves n b old mid was start in
       let (next, too) = may_ask_moves n mid new was now ask in
       let both = moved_then b false old mid new was was now first next in
-      let ranks : (count : ℕ) → All (λ d. rank count d ≡ n + 1) both.deeds =
-      λ count.
-      All-same (λ d. rank count d ≡ n + 1) both.deeds (first.deeds ++ next.deeds) (moved_deeds b false old mid new was was now first next)
-      (All-append (λ d. rank count d ≡ n + 1) first.deeds next.deeds (alone count) (too count)) in
+      let deeds = moved_deeds b false old mid new was was now first next in
+      let trusts : mid.trusts.items ≡ old.trusts.items = ap (λ v. v.items) first.rest.trusts in
+      let says : AreOfTurn old.trusts.items was n both.deeds new.stages.items =
+      record {
+        ranks = λ count.
+            All-same (λ d. rank count d ≡ n + 1) both.deeds (first.deeds ++ next.deeds) deeds
+            (All-append (λ d. rank count d ≡ n + 1) first.deeds next.deeds (alone.ranks count) (too.ranks count));
+        unpassed = λ stage at.
+            subst (λ ds. IsUnpassed old.trusts.items ds n stage) (sym deeds)
+            (unpassed_then old.trusts.items n stage first.deeds next.deeds alone.before
+            (subst (λ ts. IsUnpassed ts next.deeds n stage) trusts (too.unpassed stage at)));
+        with_room =
+            All-same (AsksWithRoom old.trusts.items was) both.deeds (first.deeds ++ next.deeds) deeds
+            (All-append (AsksWithRoom old.trusts.items was) first.deeds next.deeds alone.with_room
+            (subst (λ ts. All (AsksWithRoom ts was) next.deeds) trusts too.with_room));
+      } in
       let whole =
-      subst (λ x. (have : HaveMoved theory kind rules x old new was now) × ((count : ℕ) → All (λ d. rank count d ≡ n + 1) have.deeds)) (or_false b)
-      (both, ranks) in
+      subst (λ x. (have : HaveMoved theory kind rules x old new was now) × AreOfTurn old.trusts.items was n have.deeds new.stages.items) (or_false b)
+      (both, says) in
       let before = start_others n b old mid start in
       let after = ask_others n mid new was now ask in
       record {
         have = whole.0;
-        ranks = whole.1;
-        settled = settled_at n b old mid new was now start ask (ap (λ v. v.items) first.rest.trusts);
+        ranks = whole.1.ranks;
+        settled = settled_at n b old mid new was now start ask trusts;
+        unpassed = whole.1.unpassed;
+        with_room = whole.1.with_room;
         others = λ k ne. after.0 k ne ∙ before k ne;
         arrived = after.1;
         more = after.2;
@@ -297,6 +348,7 @@ module _ {V T O R K U D Table Owner : Type 0} (theory : Theory V O R K Table D O
     ranks = λ count. All-nil (λ d. rank count d ≤ 0);
     in_order = λ count. one_rank (rank count) [] 0 (All-nil (λ d. rank count d ≡ 0));
     settled = λ k stage lt e. absurd (omega (arith, lt));
+    unpassed = λ k stage lt e. absurd (omega (arith, lt));
     arrived = refl;
   }
 
@@ -323,5 +375,20 @@ module _ {V T O R K U D Table Owner : Type 0} (theory : Theory V O R K Table D O
               | inr ne ↦
                   settled_more old.trusts.items between now stage s.more (f.settled k stage (omega (arith, lt, ne)) (sym (s.others k ne) ∙ e))
             ];
+        unpassed = λ k stage lt e.
+            subst (λ ds. IsUnpassed old.trusts.items ds k stage) (sym deeds) (
+            elim (cases_eq k n) [
+              | inl same ↦
+                  unpassed_then old.trusts.items k stage f.have.deeds s.have.deeds
+                  (λ t. all_before old.trusts.items t k f.have.deeds (subst (λ m. All (λ d. rank 0 d ≤ m) f.have.deeds) (sym same) (f.ranks 0)))
+                  (subst (λ m. IsUnpassed old.trusts.items s.have.deeds m stage) (sym same)
+                  (subst (λ ts. IsUnpassed ts s.have.deeds n stage) trusts (s.unpassed stage (ap (slice_get new.stages.items) (sym same) ∙ e))))
+              | inr ne ↦
+                  let less : k < n = omega (arith, lt, ne) in
+                  let at : slice_get mid.stages.items k ≡ Some stage = sym (s.others k ne) ∙ e in
+                  unpassed_settled old.trusts.items between k stage f.have.deeds s.have.deeds (f.settled k stage less at) (f.unpassed k stage less at)
+                  (subst (λ ts. All (AsksWithRoom ts between) s.have.deeds) trusts s.with_room)
+            ]
+            );
         arrived = s.arrived ∙ f.arrived;
       }

@@ -8,5 +8,6 @@ mod Ranges
 mod Ranks
 mod Resumed
 pub mod Theirs
+mod Unpassed
 mod WholeTurn
 mod Worlds

@@ -20,7 +20,7 @@ use Rattle.tm_task.specs.declared.tasks.Tasks.{Tasks}
 use Rattle.tm_task.specs.declared.turning.Progress.{Progress}
 use Rattle.tm_task.specs.Going.{AreInRange, KeepsRest, ProgressOf, HaveMoved, HaveAnswered, HaveGoneOn, HaveMadeTurns, is_some}
 use Rattle.tm_task.specs.Ours.{AreTables, AreTheirs, HoldsOpen}
-use Rattle.tm_task.specs.Progressing.{IsSettled, moves_in, rank, resumed_in, turns_in, went_in, busy_below, all_pending, world_of, Tells, HaveTurned}
+use Rattle.tm_task.specs.Progressing.{IsSettled, IsUnpassed, moves_in, rank, resumed_in, turns_in, went_in, busy_below, all_pending, world_of, Tells, HaveTurned}
 use Rattle.tm_task.specs.Rules.{Rules}
 use Rattle.tm_task.specs.Runs.{Runs}
 use Rattle.tm_task.specs.Stages.{ended_in, Goes, AreTasks}
@@ -31,6 +31,7 @@ use Rattle.tm_task.proofs.Ranges.{all_in_range, going_in_range}
 use Rattle.tm_task.proofs.Ranks.{one_rank, rising_joined}
 use Rattle.tm_task.proofs.Resumed.{afters_of, none_resumed, resumed_append, resumed_are}
 use Rattle.tm_task.proofs.Theirs.{theirs_then}
+use Rattle.tm_task.proofs.Unpassed.{all_before, all_last, unpassed_then, unpassed_still}
 use Rattle.tm_task.proofs.Worlds.{holds_then, tables_then}
 
 none_of : (n : ℕ) → is_some n ≡ false → n ≡ 0
@@ -228,6 +229,23 @@ module _ {V T O R K U D Table Owner : Type 0} (theory : Theory V O R K Table D O
         subst (λ (ts : List Trust). IsSettled through ts stage) (ap (λ v. v.items) took.have.rest.trusts) (on.settled n stage (omega (arith, many, lt)) at) in
         settled_more theory kind rules old.trusts.items through now stage (λ t. let same = made.counting t in omega (arith, same)) here
 
+    unpassed_is : (n : ℕ) (stage : Stage V T U O R K) → slice_get new.stages.items n ≡ Some stage
+        → IsUnpassed old.trusts.items (both.deeds ++ made.deeds) n stage
+    unfolding both
+    unpassed_is n stage e =
+        let at : slice_get mid.stages.items n ≡ Some stage = ap (λ l. slice_get l n) (sym made.stages) ∙ e in
+        let many = on.have.many in
+        let lt = slice_get_within mid.stages.items n stage at in
+        let here : IsUnpassed old.trusts.items on.have.deeds n stage =
+        subst (λ (ts : List Trust). IsUnpassed ts on.have.deeds n stage) (ap (λ v. v.items) took.have.rest.trusts) (on.unpassed n stage (omega (arith, many, lt)) at) in
+        let before = λ (t : ℕ). all_before old.trusts.items t n took.have.deeds
+        (All-weaker (λ d. rank 0 d ≡ 0) (λ d. rank 0 d ≤ n) (λ d h. omega (arith, h)) took.have.deeds (took.ranks 0)) in
+        unpassed_still old.trusts.items n stage both.deeds made.deeds
+        (subst (λ ds. IsUnpassed old.trusts.items ds n stage)
+        (sym (moved_deeds theory kind rules resumed started old first mid was between through took.have on.have))
+        (unpassed_then old.trusts.items n stage took.have.deeds on.have.deeds before here))
+        (λ t. all_last old.trusts.items t n made.deeds made.ranks)
+
     pub have_turned : ProgressOf ended ((resumed || started) || went) progress → (ended ≡ true → ended_in new.stages.items ≡ length new.stages.items)
         → (ended ≡ false → ended_in new.stages.items ≢ length new.stages.items)
         → HaveTurned theory kind rules progress old new was now before after
@@ -251,6 +269,7 @@ module _ {V T O R K U D Table Owner : Type 0} (theory : Theory V O R K Table D O
           in_order = all_rise;
           turns = ap (map (λ turn. turn.0)) turns ∙ made.turns ∙ sym busy;
           settled = settled_is;
+          unpassed = unpassed_is;
           tells =
               told_so ended ((resumed || started) || went) progress (both.deeds ++ made.deeds) new.stages.items (busy_below now (length after)) is all_ended some_left
               (ap (λ x. x || went) both.moves ∙ ap (λ x. is_some (moves_in both.deeds) || x) made.went_is

@@ -21,7 +21,7 @@ use Rattle.tm_task.specs.declared.task.Move.{Move}
 use Rattle.tm_task.specs.declared.tasks.Tasks.{Tasks}
 use Rattle.tm_task.specs.declared.turning.Progress.{Progress}
 use Rattle.tm_task.specs.declared.turning.Progress.TheVariants.{Moved, Pending as StillPending, AllEnded}
-use Rattle.tm_task.specs.Progressing.{IsSettled, moves_in, rank, turns_in, went_in, counting_at, all_pending, world_of}
+use Rattle.tm_task.specs.Progressing.{IsSettled, IsUnpassed, moves_in, rank, turns_in, went_in, counting_at, all_pending, world_of}
 use Rattle.tm_task.specs.Rules.{Rules}
 use Rattle.tm_task.specs.Runs.{Runs}
 use Rattle.tm_task.specs.Stages.{IsStarted, IsAsked, IsResumed}
@@ -97,6 +97,7 @@ module _ {V T O R K U : Type 0} where
       pub told : new.told.items ≡ old.told.items ++ Asked n i op ∷ []
       pub steps : IsAsked n i op old.stages.items new.stages.items
       pub of_trust : slice_get old.trusts.items i ≡ Some trust
+      pub room_there : counting_at was trust.trustee < WINDOW
       pub asked : HasAsked trust.trustee (Apply trust.name op) n 0 was now
       pub rest : KeepsRest old new
 
@@ -111,6 +112,12 @@ module _ {V T O R K U : Type 0} where
 
     abbrev pub MayAsk : ℕ → Tasks V T O R K U → Tasks V T O R K U → Books V ℕ D O R K → Books V ℕ D O R K → Type 0
     MayAsk n old new was now = HasAskedAt n old new was now ⊎ HasNotAsked n old new was now
+
+module _ {V T U O R K D : Type 0} (trusts : List Trust) (books : Books V ℕ D O R K) where
+  -- where a deed asks a trustee, its window had room
+  abbrev pub AsksWithRoom : Deed V T U O R K → Type 0
+  AsksWithRoom (Asked k i op) = (trust : Trust) → slice_get trusts i ≡ Some trust → counting_at books trust.trustee < WINDOW
+  AsksWithRoom _ = Unit {0}
 
 module _ {V T O R K U D Table Owner : Type 0} (theory : Theory V O R K Table D Owner) (kind : Kind V O R K) (rules : Rules V T U O R K) where
   -- what was done without the tables, and whether it moved a task
@@ -134,6 +141,8 @@ module _ {V T O R K U D Table Owner : Type 0} (theory : Theory V O R K Table D O
     pub have : HaveMoved moved old new was now
     pub ranks : (count : ℕ) → All (λ d. rank count d ≡ n + 1) have.deeds
     pub settled : (stage : Stage V T U O R K) → slice_get new.stages.items n ≡ Some stage → IsSettled now old.trusts.items stage
+    pub unpassed : (stage : Stage V T U O R K) → slice_get new.stages.items n ≡ Some stage → IsUnpassed old.trusts.items have.deeds n stage
+    pub with_room : All (AsksWithRoom old.trusts.items was) have.deeds
     pub others : (k : ℕ) → k ≢ n → slice_get new.stages.items k ≡ slice_get old.stages.items k
     pub arrived : now.arrived ≡ was.arrived
     pub more : (t : ℕ) → counting_at was t ≤ counting_at now t
@@ -144,6 +153,7 @@ module _ {V T O R K U D Table Owner : Type 0} (theory : Theory V O R K Table D O
     pub ranks : (count : ℕ) → All (λ d. rank count d ≤ n) have.deeds
     pub in_order : (count : ℕ) → IsNonDecreasingBy (rank count) have.deeds
     pub settled : (k : ℕ) (stage : Stage V T U O R K) → k < n → slice_get new.stages.items k ≡ Some stage → IsSettled now old.trusts.items stage
+    pub unpassed : (k : ℕ) (stage : Stage V T U O R K) → k < n → slice_get new.stages.items k ≡ Some stage → IsUnpassed old.trusts.items have.deeds k stage
     pub arrived : now.arrived ≡ was.arrived
 
   -- the client made its turns at these trustees; whether one sent a batch or got answers. Where none did, each was pending

@@ -1,5 +1,6 @@
 -- What a turn of tasks says that it did.
-use Rattle.std.specs.Prelude.{◌≡◌, ◌≢◌, ℕ, zero, suc, ◌+◌, ◌≤◌, ◌==◌, cond, List, [], ◌∷◌, ◌++◌, length, map, slice_get}
+use Rattle.std.specs.Prelude.{◌≡◌, ◌≢◌, ℕ, zero, suc, ◌+◌, ◌<◌, ◌≤◌, ◌==◌, cond, List, [], ◌∷◌, ◌++◌, length, map, slice_get}
+use Rattle.std.specs.List.{All}
 use Rattle.std.specs.List.Sorted.{IsNonDecreasingBy}
 use Rattle.std.specs.declared.option.Option.{Option}
 use Rattle.std.specs.declared.option.Option.TheVariants.{None, Some}
@@ -83,6 +84,17 @@ module _ {V T U O R K C D : Type 0} where
   IsSettled books trusts (Asks i op task) = (trust : Trust) × (slice_get trusts i ≡ Some trust) × (WINDOW ≤ counting_at books trust.trustee)
   IsSettled books trusts _ = Unit {0}
 
+module _ {V T U O R K : Type 0} (trusts : List Trust) where
+  -- where a deed asks trustee t, it asks for a task before n
+  abbrev pub AsksBefore : ℕ → ℕ → Deed V T U O R K → Type 0
+  AsksBefore t n (Asked k i op) = (trust : Trust) → slice_get trusts i ≡ Some trust → trust.trustee ≡ t → k < n
+  AsksBefore t n _ = Unit {0}
+
+  -- where task n still is to ask, no task behind it was asked of that trustee
+  abbrev pub IsUnpassed : List (Deed V T U O R K) → ℕ → Stage V T U O R K → Type 0
+  IsUnpassed deeds n (Asks i op task) = (trust : Trust) → slice_get trusts i ≡ Some trust → All (AsksBefore trust.trustee n) deeds
+  IsUnpassed deeds n _ = Unit {0}
+
 -- a turn at each trustee of a list, which was pending
 abbrev pub all_pending : List ℕ → List (ℕ × Turn)
 all_pending trustees = map (λ t. (t, Pending)) trustees
@@ -113,6 +125,8 @@ module _ {V T O R K U D Table Owner : Type 0} (theory : Theory V O R K Table D O
     pub turns : map (λ turn. turn.0) (turns_in deeds) ≡ busy_below now (length after)
     -- each task was started, and what one asks was asked, unless the window is full
     pub settled : (n : ℕ) (stage : Stage V T U O R K) → slice_get new.stages.items n ≡ Some stage → IsSettled now old.trusts.items stage
+    -- that window was full when the task had its turn: none behind it was asked of the trustee
+    pub unpassed : (n : ℕ) (stage : Stage V T U O R K) → slice_get new.stages.items n ≡ Some stage → IsUnpassed old.trusts.items deeds n stage
     pub tells : Tells progress deeds new.stages.items (busy_below now (length after))
     pub many : length new.stages.items ≡ length old.stages.items
     pub trusts : new.trusts ≡ old.trusts

@@ -3,8 +3,7 @@ use Rattle.std.specs.Prelude.{slice_get, slice_set}
 use Rattle.std.specs.declared.option.Option.TheVariants.{Some}
 use Rattle.tm_client.specs.Asking.{IsHeldBy, IsOpen}
 use Rattle.tm_task.specs.declared.stage.Stage.TheVariants.{Asks, Waits}
-use Rattle.tm_task.proofs.Asks.{refused_counts}
-use Rattle.tm_task.proofs.Doing.{blocked_by}
+use Rattle.tm_task.proofs.Asks.{blocked_by, refused_counts, room_counts}
 use Rattle.tm_task.proofs.Places.{all_at, read_at, set_back, set_twice}
 use Rattle.tm_task.proofs.tasks.Tasks.ask.Goals as goal
 
@@ -33,6 +32,7 @@ returns-in-Ok-clause-may g c =
         now = set_twice stages c.args.number c.replace-stage.new.dest (Waits c.in-Asks.trust c.in-Asks.task);
       };
       of_trust = read_at c.args.self.now.trusts.items c.in-Asks.trust c.index-2.result.now lt c.index-2.ensures;
+      room_there = room_counts (slice_get c.args.client.now.books.lanes.items c.index-2.result.now.trustee) c.in-Ok.ensures.may.2;
       asked = c.in-Ok.ensures.asked;
       rest = record { trusts = refl; room = refl; stages_room = refl; outs = refl };
     })
