@@ -1,4 +1,4 @@
-//! Worked cases of devices, kinds, batches, slots on numbers, latches, objects, and a trustee's rules.
+//! Worked cases of devices, kinds, batches, slots on numbers, latches, objects, a trustee's rules, and waiting.
 
 mod batches;
 mod devices;
@@ -7,3 +7,4 @@ mod latches;
 mod machine;
 mod objects;
 mod reference;
+mod waiting;
