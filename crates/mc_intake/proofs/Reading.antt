@@ -1,5 +1,6 @@
 -- What an intake has of a source, as more is fed and more comes.
-use Rattle.std.proofs.Common.{◌≡◌, ◌≢◌, inl, inr, ℕ, zero, suc, ◌+◌, ◌-◌, ◌<◌, ◌≤◌, min, List, [], ◌∷◌, ◌++◌, length, take, drop, Option, Some, refl, sym, ap, subst, ◌∙◌, arith, append_assoc, append-nil, length-append}
+use Rattle.std.proofs.Common.{◌≡◌, ◌≢◌, ◌⊎◌, inl, inr, ℕ, zero, suc, ◌+◌, ◌-◌, ◌<◌, ◌≤◌, min, List, [], ◌∷◌, ◌++◌, length, take, drop, Option, Some, refl, sym, ap, subst, ◌∙◌, arith, append_assoc, append-nil, length-append}
+use Rattle.std.specs.Prelude.{◌↔◌}
 use Rattle.std.proofs.lemmas.Bool.{cases_lt}
 use Rattle.std.proofs.lemmas.List.{take_all, take-take, drop-drop, length-take, length-drop, length-take-le}
 use Rattle.tm_base.specs.Visible.{Gives}
@@ -11,7 +12,7 @@ use Rattle.mc_grammar.specs.declared.reader.Next.TheVariants as next
 use Rattle.mc_grammar.specs.Progress.{IsUnfinished, IsReady, Start}
 use Rattle.mc_grammar.specs.Reading.{IsRead, ReadsOn, ReadsItem, Comes, ReadsNext}
 use Rattle.mc_grammar.specs.Pieces.{kept}
-use Rattle.mc_grammar.proofs.Piecewise.{start_unfinished, still_unfinished}
+use Rattle.mc_grammar.proofs.Piecewise.{start_unfinished, still_unfinished, took}
 use Rattle.mc_intake.specs.declared.intake.TheConstants.{BUFFER}
 use Rattle.mc_intake.specs.declared.intake.Intake.{Intake}
 use Rattle.mc_intake.specs.declared.intake.Came.{Came}
@@ -206,3 +207,20 @@ ends_meet limit text messages i is none =
     let empty = ap length none in
     let le = is.from_to in
     omega (arith, count, empty, le)
+
+some_bytes : (xs : List ℕ) → xs ≢ [] → 0 < length xs
+some_bytes [] ne = absurd (ne refl)
+some_bytes (x ∷ xs) ne = omega arith
+
+-- of some bytes in hand at least one is fed
+pub fewer_unfed :
+    (limit : ℕ) (text : List ℕ) (messages : List Message) (old new : Intake) (n : ℕ) → IsIntake limit text messages old
+    → new.buffer ≡ old.buffer → new.from ≡ old.from + n → new.to ≡ old.to → n ≤ length (unfed old)
+    → ((n ≡ 0) ↔ ((unfed old ≡ []) ⊎ IsReady old.reader)) → unfed old ≢ [] → length (unfed new) < length (unfed old)
+fewer_unfed limit text messages old new n is buffer from to le takes some =
+    let count = unfed_count old is.from_to is.to_end is.room in
+    let least = took (unfed old) n old.reader (some_bytes (unfed old) some) is.unfinished takes in
+    let size : new.from ≤ new.to = let within = is.from_to in omega (arith, le, count, within, from, to) in
+    let end : new.to ≤ BUFFER = let most = is.to_end in omega (arith, most, to) in
+    let after = unfed_count new size end (ap (λ b. length b.items) buffer ∙ is.room) in
+    omega (arith, count, after, least, from, to, size)

@@ -1,5 +1,5 @@
 //! The messages of a source, read as they come, at most its first bytes.
-ghost use Rattle.std.specs.Prelude.{◌≡◌, ◌↔◌, ℕ, min, [], List, IsTrue, true, Ok, IfOk, OnOk, OnErr};
+ghost use Rattle.std.specs.Prelude.{◌≡◌, ◌≢◌, ◌<◌, ◌↔◌, ℕ, length, min, [], List, IsTrue, true, Ok, IfOk, OnOk, OnErr};
 ghost use Rattle.tm_base.specs.Causes.{HasCause};
 ghost use Rattle.tm_base.specs.Visible.{Stays};
 ghost use Rattle.mc_grammar.specs.declared.reader.Next.{Next};
@@ -72,6 +72,7 @@ impl Intake {
         ensures left { self.new.left ≡ self.old.left }
         // Each message has a byte at least, so where all is fed there is none.
         ensures fed { unfed self.old ≡ [] → (result ≡ Ok Next.More) × (self.new ≡ self.old) }
+        ensures fewer { OnOk result (unfed self.old ≢ [] → length (unfed self.new) < length (unfed self.old)) }
         ensures err { OnErr result (self.new ≡ self.old) }
     {
         if self.from == self.to {
