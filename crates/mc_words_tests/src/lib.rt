@@ -1,0 +1,5 @@
+//! Tests of `mc_words`.
+#![tactic(auto)]
+
+#[cfg(test)]
+mod tests;
