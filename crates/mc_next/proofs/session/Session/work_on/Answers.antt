@@ -1,0 +1,47 @@
+use Rattle.std.proofs.Common.{Some, refl, ap, subst, ◌∙◌}
+use Rattle.mc_next.specs.Sessions.{seen, IsGoing}
+use Rattle.mc_next.specs.Steps.{before_of, HasAdvanced}
+use Rattle.mc_next.proofs.Advancing.{same_before}
+use Rattle.mc_next.proofs.Clients.{home_stays}
+use Rattle.mc_next.proofs.Stepping.{advanced_from}
+use Rattle.mc_next.proofs.session.Session.work_on.Goals as goal
+
+pub returns-then-ask_and_take-clause-home : goal.returns-then-ask_and_take-clause-home
+returns-then-ask_and_take-clause-home g c = λ openings home.
+    home_stays g.P.PairTable.theory openings c.args.tables.now c.args.client.now.books c.ask_and_take.new.client.books home c.ask_and_take.ensures.keeps
+    (c.ask_and_take.ensures.client openings home.client)
+
+pub turn_or_write-requires-clause-busy : goal.turn_or_write-requires-clause-busy
+turn_or_write-requires-clause-busy g c =
+    let (same, rests) = c.if-ask_and_take.ensures.rests refl in
+    (rests.becomes, ap (λ session. session.work) rests.session)
+
+pub returns-clause-moved : goal.returns-clause-moved
+returns-clause-moved g c = λ e.
+    let theory = g.P.PairTable.theory in
+    let old = c.args.self.now in
+    let new = c.turn_or_write.new.self in
+    let tables = c.args.tables.now in
+    let tables_new = c.turn_or_write.new.tables in
+    let books = c.turn_or_write.new.client.books in
+    let (same, rests) = c.if-ask_and_take.ensures.rests refl in
+    subst (λ b. HasAdvanced theory (record old { work = Some c.args.work }) new tables b tables_new books) (ap (λ client. client.books) same)
+    (advanced_from theory (record old { work = Some c.args.work }) c.ask_and_take.new.self new tables c.ask_and_take.new.client.books tables_new books
+    (ap before_of rests.session ∙ same_before old c.args.work rests.becomes rests.left) (c.turn_or_write.ensures.moved e))
+
+pub returns-clause-goes : goal.returns-clause-goes
+returns-clause-goes g c = λ s first left readings of on.
+    let view = g.P.PairTable.theory.client_view in
+    let mid = c.ask_and_take.new.self in
+    let books = c.ask_and_take.new.client.books in
+    let told = g.B.Sink.written c.args.sink.now in
+    let (same, rests) = c.if-ask_and_take.ensures.rests refl in
+    let running = ap (λ session. session.stopped) rests.session ∙ c.requires.running in
+    c.turn_or_write.ensures.goes s first left readings
+    (subst (λ o. IsGoing view s o mid first (seen view books left readings told) books) running (c.ask_and_take.ensures.goes s first left readings told of on))
+
+pub returns-clause-home : goal.returns-clause-home
+returns-clause-home g c = λ openings home.
+    c.turn_or_write.ensures.home openings
+    (home_stays g.P.PairTable.theory openings c.args.tables.now c.args.client.now.books c.ask_and_take.new.client.books home c.ask_and_take.ensures.keeps
+    (c.ask_and_take.ensures.client openings home.client))
