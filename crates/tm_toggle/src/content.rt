@@ -18,9 +18,9 @@ const COMPLETIONS: usize = 3;
 /// What stands in a slot: nothing, a batch, or the answers to one.
 ///
 /// A batch is moved in and out element by element, so that only the memory of what is in it changes
-/// hands. The arrays are always full: how many of their elements count is said beside one another, so
-/// that who puts elements in reads nothing that the other side wrote, and who takes them out finds
-/// all counts in one line of memory.
+/// hands. The arrays are always full: how many of their elements count stands behind them all, so
+/// that who puts elements in reads no count that the other side wrote, and who takes them out finds
+/// all counts beside one another.
 pub struct Content<S: FitsBatches> {
     pub(crate) front: u64,
     pub(crate) room: Room,

@@ -1,6 +1,7 @@
 //! What holds of a table between any two atomic steps.
+ghost use Rattle.std.specs.Prelude.{ℕ, ◌+◌, ◌*◌, ◌<◌, ◌≤◌, ◌⊎◌};
 ghost use Rattle.atomic_table.specs.Table.{State as TableState};
-ghost use Rattle.tm_toggle.specs.Ruled.{opening_by, Delegates};
+ghost use Rattle.tm_toggle.specs.Ruled.{opening_by, r_of, s_of, Delegates};
 ghost use Rattle.tm_toggle.specs.Shared.{IsClientOf, IsTrusteeOf, IsSame};
 ghost use Rattle.tm_toggle.specs.declared.shared.SharedTable.{SharedTable};
 ghost use Rattle.tm_toggle.specs.declared.sides.SharedClient.{SharedClient};
@@ -31,4 +32,16 @@ pub fn one_good_core<S: Shareable>()
 pub fn handles_share_sides<S: Shareable>()
     ensures clients { (a b : SharedTable S S.Op S.Reply S.Task) (side : SharedClient S S.Op S.Reply S.Task) → IsSame a b → IsClientOf S.kind a side → IsClientOf S.kind b side }
     ensures trustee { (a b : SharedTable S S.Op S.Reply S.Task) (side : SharedTrustee S S.Op S.Reply S.Task) → IsSame a b → IsTrusteeOf S.kind a side → IsTrusteeOf S.kind b side }
+{}
+
+/// **The words stand apart.** A client stores the request word of its place alone, and the trustee the response words.
+/// Between the beginnings of any two of these are at least 16 words, and so many stand before the first and, in a table
+/// of so many places, behind the beginning of the last. A word has 8 bytes, so no two of them, and no other memory, share
+/// 128 bytes.
+pub fn words_stand_apart()
+    ensures requests { (c d : ℕ) → c < d → r_of c + 16 ≤ r_of d }
+    ensures responses { (c d : ℕ) → c < d → s_of c + 16 ≤ s_of d }
+    ensures both { (c d : ℕ) → (r_of c + 16 ≤ s_of d) ⊎ (s_of d + 16 ≤ r_of c) }
+    ensures first { (c : ℕ) → 16 ≤ r_of c }
+    ensures last { (c places : ℕ) → c < places → s_of c + 16 ≤ 32 * places + 48 }
 {}
