@@ -1,15 +1,18 @@
 -- A runtime of some clients and two trustees, of which the greater has a counter of 0 that each client holds.
-use Rattle.std.specs.Prelude.{◌≡◌, ℕ, ◌<◌, List, [], ◌∷◌, All}
+use Rattle.std.specs.Prelude.{◌≡◌, ℕ, zero, suc, ◌+◌, ◌<◌, ◌≤◌, List, [], ◌∷◌, ◌++◌, length, All}
 use Rattle.std.specs.List.{AllByRecursion, range_with_len}
 use Rattle.std.specs.declared.option.Option.TheVariants.{None}
 use Rattle.tm_seq.specs.declared.counter.Counter.{Counter}
 use Rattle.tm_seq.specs.declared.counter.CounterOp.{CounterOp}
 use Rattle.tm_seq.specs.declared.counter.CounterReply.{CounterReply}
+use Rattle.tm_seq.specs.declared.counter.CounterReply.TheVariants.{Is}
 use Rattle.tm_seq.specs.declared.counter.CounterTask.{CounterTask}
 use Rattle.tm_batch.specs.declared.config.Config.{Config}
 use Rattle.tm_batch.specs.declared.config.First.{First}
 use Rattle.tm_batch.specs.declared.message.Request.{Request}
 use Rattle.tm_batch.specs.declared.message.Request.TheVariants.{Apply}
+use Rattle.tm_batch.specs.declared.message.Answer.{Answer}
+use Rattle.tm_batch.specs.declared.message.Answer.TheVariants.{Replied}
 use Rattle.tm_model.specs.State.{State, holds_at}
 use Rattle.tm_model.specs.Opening.{opening_of}
 use Rattle.tm_pair.specs.Theory.{Theory}
@@ -30,6 +33,23 @@ counting clients t = opening_of t (config_of clients) (first_of clients)
 abbrev pub IsOfCounter : {V O R T : Type 0} → Request V O R T → Type 0
 IsOfCounter (Apply name op) = name.id ≡ 1
 IsOfCounter _ = ⊥
+
+-- 1 + 2 + ... + n
+abbrev pub up_to : ℕ → ℕ
+up_to zero = 0
+up_to (suc n) = up_to n + suc n
+
+-- what is answered to the first n additions of 1, 2 and so on to a counter that stands at `start`, with nothing added between them
+abbrev pub sums_of : ℕ → ℕ → List (Answer Counter CounterOp CounterReply CounterTask)
+sums_of start zero = []
+sums_of start (suc n) = sums_of start n ++ Replied (Is (start + up_to (suc n))) ∷ []
+
+-- answers to such additions came in order: the counter stood at a number from `before` on, and ends at `last`
+pub record CameInOrder (before : ℕ) (answers : List (Answer Counter CounterOp CounterReply CounterTask)) (last : ℕ) : Type 0 where
+  pub start : ℕ
+  pub since : before ≤ start
+  pub sums : answers ≡ sums_of start (length answers)
+  pub is_last : last ≡ start + up_to (length answers)
 
 -- a fact that holds unless a look found that the answers are still to come
 abbrev pub UnlessPending : {V O R T : Type 0} → Collected V O R T → Type 0 → Type 0

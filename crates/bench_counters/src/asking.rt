@@ -1,9 +1,11 @@
 //! A client's thread.
-ghost use Rattle.std.specs.Prelude.{◌≡◌, [], ◌∷◌};
+ghost use Rattle.std.specs.Prelude.{◌≡◌, ◌+◌, ◌<◌, ◌≤◌, [], ◌∷◌, IfSome};
 ghost use Rattle.std.specs.List.{AllByRecursion};
 ghost use Rattle.std.specs.declared.option.Option.TheVariants.{None};
 ghost use Rattle.tm_batch.specs.declared.message.Request.TheVariants.{Bye};
-ghost use Rattle.bench_counters.specs.Counting.{IsOfCounter, HasAsked, MayAsk, UnlessPending};
+ghost use Rattle.tm_batch.specs.declared.message.Answer.TheVariants.{Replied};
+ghost use Rattle.tm_seq.specs.declared.counter.CounterReply.TheVariants.{Is};
+ghost use Rattle.bench_counters.specs.Counting.{IsOfCounter, CameInOrder, HasAsked, MayAsk, UnlessPending};
 
 use crate::waiting::Waiting;
 use crate::work::Work;
@@ -41,19 +43,29 @@ pub(crate) fn bye() -> Batch<Counter>
     batch
 }
 
+/// What the counter stands at behind an addition of `by`, if it was answered so, and nothing else was added since it stood
+/// at `last`. Others may have added before the first of a batch, which adds 1.
+fn next_of(answer: &Answer<Counter>, last: u64, by: u64) -> Option<u64>
+    ensures { IfSome result (λ sum. (answer.now ≡ Replied (Is sum)) × (last + by ≤ sum) × (1 < by → sum ≡ last + by)) }
+{
+    let Answer::Replied(CounterReply::Is(sum)) = answer else {
+        return None;
+    };
+    let added = sum.checked_sub(last)?;
+    if added < by || (added > by && by > 1) {
+        return None;
+    }
+    Some(*sum)
+}
+
 /// The reply to the last request of a batch of [`adds`], if it came to them in order: nothing else is added between two
 /// requests of a batch, and nothing is taken away between two batches.
-fn last_of(answers: &[Answer<Counter>], before: u64) -> Option<u64> {
+fn last_of(answers: &[Answer<Counter>], before: u64) -> Option<u64>
+    ensures { IfSome result (λ last. CameInOrder before answers.now last) }
+{
     let mut last = before;
-    for (answer, by) in answers.iter().zip(1u64..) {
-        let Answer::Replied(CounterReply::Is(sum)) = answer else {
-            return None;
-        };
-        let added = sum.checked_sub(last)?;
-        if added < by || (added > by && by > 1) {
-            return None;
-        }
-        last = *sum;
+    for (at, answer) in answers.iter().enumerate() {
+        last = next_of(answer, last, at as u64 + 1)?;
     }
     Some(last)
 }
