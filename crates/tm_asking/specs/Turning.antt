@@ -48,6 +48,9 @@ module _ {V C D O R T Table Owner : Type 0} (theory : Theory V O R T Table D Own
     pub now : Table
     pub of_table : slice_get tables t ≡ Some was
     pub turned : HasTurned theory kind t answer was now books books_new
+    -- it is a client still, whatever the states in which the trustees opened
+    pub still : (openings : ℕ → State V O R T) → openings t ≡ theory.opening was → IsClient theory.client_view openings books
+        → IsClient theory.client_view openings books_new
     pub tables_are : tables_new ≡ slice_set tables t now
 
   -- what a request counts for: at trustee t one turn was made where a request counts, and else nothing

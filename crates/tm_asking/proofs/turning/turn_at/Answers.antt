@@ -43,6 +43,7 @@ returns-clause-turned g c =
             now = c.turn.new.table;
             of_table = slice_get-get_or c.args.tables.now c.args.trustee c.index-tables-trustee.result c.requires.trustee;
             turned = c.turn.ensures.turned;
+            still = c.turn.ensures.client;
             tables_are = refl;
           },
         ),
