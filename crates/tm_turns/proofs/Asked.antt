@@ -1,15 +1,9 @@
 -- What a write makes of a sum and of what is read; and which boxes a look leaves that found nothing.
-use Rattle.std.proofs.Common.{◌≡◌, ℕ, zero, suc, ◌+◌, ◌≤◌, Bool, false, List, [], ◌∷◌, slice_index_or, refl, ap, arith}
+use Rattle.std.proofs.Common.{◌≡◌, ℕ, zero, suc, ◌+◌, ◌≤◌, false, List, [], ◌∷◌, slice_index_or, refl, arith}
 use Rattle.std.specs.Prelude.{slice_set}
-use Rattle.tm_batch.specs.declared.message.Request.{Request}
-use Rattle.tm_batch.specs.declared.message.AnswerBatch.{AnswerBatch}
-use Rattle.tm_model.specs.declared.entry.Entry.{Entry}
-use Rattle.tm_model.specs.Slots.{Empty, Asked, Taken, Answered, no_slot, slot_of, publish, published, is_asked, taken, see, is_answered, collected, looked, collect, answered}
+use Rattle.tm_model.specs.Slots.{Empty, Asked, Taken, Answered, no_slot, slot_of, is_asked, taken, see, is_answered, collected, looked, collect}
 use Rattle.tm_model.specs.Good.{FullBox, FullSlot, FullCore}
-use Rattle.tm_model.specs.Answering.{answer_with}
-use Rattle.tm_pair.specs.Moves.{answer_taken}
 use Rattle.tm_client.specs.Clients.{total}
-use Rattle.tm_turns.proofs.Ones.{one_of}
 
 module _ {X : Type 0} (f : X → ℕ) (d : X) (least : f d ≡ 0) where
   -- the sum after a write, which may be out of range

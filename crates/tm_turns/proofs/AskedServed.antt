@@ -4,15 +4,15 @@ use Rattle.std.specs.Prelude.{slice_set}
 use Rattle.std.proofs.lemmas.Bool.{cases_eq}
 use Rattle.tm_seq.specs.Kind.{Kind}
 use Rattle.tm_model.specs.State.{State, place_count}
-use Rattle.tm_model.specs.Slots.{Asked, Looks, looked, slot_of, is_asked}
-use Rattle.tm_model.specs.Good.{FullBox, FullCore}
+use Rattle.tm_model.specs.Slots.{Looks, slot_of, is_asked}
+use Rattle.tm_model.specs.Good.{FullCore}
 use Rattle.tm_pair.specs.Views.{looks_at, no_looks}
 use Rattle.tm_pair.specs.Sides.{IsGoodTrustee}
 use Rattle.tm_pair.specs.Plain.{opening_at, core_at, trustee_at, IsTrusteeOf, plain_theory}
 use Rattle.tm_pair.specs.declared.plain.PlainTable.{PlainTable}
 use Rattle.tm_pair.specs.declared.plain.PlainTrustee.{PlainTrustee}
 use Rattle.tm_trustee.specs.Places.{ServesPlace, ServesBelow, found_below}
-use Rattle.tm_trustee.proofs.Serving.{at_most_one, found_told, found_one_more}
+use Rattle.tm_trustee.proofs.Serving.{found_told, found_one_more}
 use Rattle.tm_turns.proofs.Asked.{see_none}
 use Rattle.tm_turns.proofs.Ones.{one_of}
 

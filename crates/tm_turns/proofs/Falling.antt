@@ -1,5 +1,5 @@
 -- What is still to do of the whole, as a number, which no turn raises, and each lessens that moves more than light batches.
-use Rattle.std.proofs.Common.{◌≡◌, ℕ, zero, suc, ◌+◌, ◌*◌, ◌-◌, ◌≤◌, ◌<◌, ◌⊎◌, inl, inr, Bool, List, [], ◌∷◌, ◌++◌, length, length-set, refl, sym, ◌∙◌, ap, subst, arith}
+use Rattle.std.proofs.Common.{◌≡◌, ℕ, zero, suc, ◌+◌, ◌-◌, ◌≤◌, ◌<◌, ◌⊎◌, inl, inr, Bool, List, [], ◌∷◌, length, length-set, refl, sym, ◌∙◌, ap, subst, arith}
 use Rattle.std.specs.Prelude.{slice_get, slice_set}
 use Rattle.std.specs.declared.option.Option.TheVariants.{Some}
 use Rattle.std.proofs.lemmas.Bool.{cases_eq}
@@ -19,16 +19,16 @@ use Rattle.tm_trustee.proofs.TurningReady.{at_home, own_table}
 use Rattle.tm_client.specs.Clients.{total}
 use Rattle.tm_client.specs.declared.answers.Turn.{Turn}
 use Rattle.tm_client.proofs.Elements.{total_set}
-use Rattle.tm_turns.specs.Whole.{OneClient, OneLane, OneTrustee, HasLane, AreOf, AreTurns, Keeps}
+use Rattle.tm_turns.specs.Whole.{OneClient, OneTrustee, HasLane, AreOf, AreTurns, Keeps}
 use Rattle.tm_turns.specs.Going.{TurnsAt, TurnsBelow, ServesAt, Goes, AllGo}
 use Rattle.tm_turns.specs.declared.turns.Turns.{Turns}
 use Rattle.tm_turns.proofs.Works.{begun}
 use Rattle.tm_turns.proofs.Spending.{spends, spends_most, grows_resumes}
 use Rattle.tm_turns.proofs.Light.{core_weight, begun-append, resumes_begun}
-use Rattle.tm_turns.proofs.ServedWeighs.{IsLightSlot, weighs, places_weigh}
+use Rattle.tm_turns.proofs.ServedWeighs.{IsLightSlot, places_weigh}
 use Rattle.tm_turns.proofs.Weights.{IsLight, lane_weight, turn_falls}
 use Rattle.tm_turns.proofs.Pendings.{fetch_cause}
-use Rattle.tm_turns.proofs.WeightsUp.{tables_weight, sides_weight, asked_at, moved_at, ups_fall}
+use Rattle.tm_turns.proofs.WeightsUp.{tables_weight, sides_weight, moved_at, ups_fall}
 
 -- a trustee: the work that it accepted, less what it resumed and sent above, and its sides there
 abbrev pub trustee_weight : {V O R T : Type 0} → Kind V O R T → OneTrustee V O R T → ℕ

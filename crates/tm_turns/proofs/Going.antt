@@ -1,12 +1,12 @@
 -- One turn more behind some turns.
-use Rattle.std.proofs.Common.{◌≡◌, ℕ, zero, suc, ◌+◌, ◌-◌, ◌^◌, ◌≤◌, ◌<◌, Bool, false, List, [], ◌∷◌, ◌++◌, length, map, min, refl, sym, ◌∙◌, ap, subst, arith}
+use Rattle.std.proofs.Common.{◌≡◌, ℕ, zero, suc, ◌+◌, ◌-◌, ◌^◌, ◌≤◌, ◌<◌, inl, inr, Bool, false, List, [], ◌∷◌, ◌++◌, length, map, min, refl, sym, ◌∙◌, ap, subst, arith}
 use Rattle.std.specs.Prelude.{◌||◌}
 use Rattle.std.specs.List.{range_with_len}
 use Rattle.std.proofs.lemmas.List.FromFn.{map-range_with_len_more}
 use Rattle.tm_seq.specs.Kind.{Kind, KindLaws}
 use Rattle.tm_client.specs.declared.answers.Turn.{Turn}
 use Rattle.tm_turns.specs.Whole.{AreOf, AreTurns, Keeps}
-use Rattle.tm_turns.specs.Going.{has_moved, TurnsAt, TurnsBelow, Goes, AllGo, GoesRound, Rounds, HasRun}
+use Rattle.tm_turns.specs.Going.{has_moved, TurnsAt, TurnsBelow, Serves, Goes, AllGo, GoesRound, Rounds, HasRun}
 use Rattle.tm_turns.specs.Resting.{AreAtRest}
 use Rattle.tm_turns.specs.declared.turns.Turns.{Turns}
 use Rattle.tm_turns.proofs.Falling.{all_keep, turns_still}
@@ -17,6 +17,12 @@ use Rattle.tm_turns.proofs.Ones.{one_of}
 map_same : (xs : List ℕ) → map (λ n. n) xs ≡ xs
 map_same [] = refl
 map_same (x ∷ xs) = ap (λ ys. x ∷ ys) (map_same xs)
+
+-- so many numbers from one on, and one more
+pub range_one_more : (from n : ℕ) → range_with_len from (n + 1) ≡ range_with_len from n ++ (from + n) ∷ []
+range_one_more from n =
+    sym (map_same (range_with_len from (n + 1))) ∙ map-range_with_len_more (λ m. m) from n (from + n) (omega arith)
+    ∙ ap (λ xs. xs ++ (from + n) ∷ []) (map_same (range_with_len from n))
 
 -- the numbers below one more
 pub range_more : (n : ℕ) → range_with_len 0 (n + 1) ≡ range_with_len 0 n ++ n ∷ []
@@ -49,6 +55,12 @@ module _ {V C O R T : Type 0} (kind : Kind V O R T) where
         now.as_many_tables ∙ sym are.as_many_tables,
         now.as_many_trustees ∙ sym are.as_many_trustees,
       )
+
+  -- a trustee's turn, as that of its number behind the clients'
+  pub goes_serve :
+      (clients t : ℕ) (moved : Bool) (old new : Turns V C O R T) → length old.clients.items ≡ clients → t < length old.trustees.items → Serves kind t moved old new
+      → Goes kind (clients + t) moved old new
+  goes_serve clients t moved old new many lt serves = inr (inl (t, ap (λ n. n + t) (sym many), lt, serves))
 
   pub go_none : (s : Turns V C O R T) → AllGo kind [] 0 s s
   unfolding AllGo

@@ -1,10 +1,9 @@
 -- The laws of a trustee's launched work hold of each trustee of a whole.
-use Rattle.std.proofs.Common.{◌≡◌, ℕ, ◌+◌, sym, subst}
+use Rattle.std.proofs.Common.{◌≡◌, ◌+◌, sym, subst}
 use Rattle.std.specs.Prelude.{slice_get}
 use Rattle.std.specs.declared.option.Option.TheVariants.{Some}
 use Rattle.tm_seq.specs.Kind.{Kind}
 use Rattle.tm_pair.specs.Plain.{opening_at, client_at, plain_theory, plain_laws}
-use Rattle.tm_pair.specs.declared.plain.PlainTable.{PlainTable}
 use Rattle.tm_trustee.specs.NestedAsks.{IsTied}
 use Rattle.tm_trustee.specs.Serving.{done_by}
 use Rattle.tm_trustee.proofs.Elements.{mapped}

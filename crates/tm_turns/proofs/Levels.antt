@@ -1,5 +1,5 @@
 -- How far the completions are for which a side waits, slot by slot: a round of light moves alone brings each nearer.
-use Rattle.std.proofs.Common.{◌≡◌, ◌≢◌, ℕ, zero, suc, ◌+◌, ◌≤◌, ◌<◌, ◌⊎◌, inl, inr, List, [], ◌∷◌, length, slice_index_or, min, refl, sym, ◌∙◌, ap, subst, arith}
+use Rattle.std.proofs.Common.{◌≡◌, ℕ, zero, suc, ◌≤◌, ◌<◌, inl, inr, List, [], ◌∷◌, min, refl, ap, arith}
 use Rattle.std.specs.Prelude.{slice_get}
 use Rattle.std.specs.declared.option.Option.TheVariants.{Some}
 use Rattle.std.proofs.lemmas.Bool.{cases_lt}
@@ -7,7 +7,7 @@ use Rattle.tm_batch.specs.declared.message.Completion.{Completion}
 use Rattle.tm_batch.specs.declared.message.Request.{Request}
 use Rattle.tm_batch.specs.declared.message.AnswerBatch.{AnswerBatch}
 use Rattle.tm_model.specs.declared.entry.Entry.{Entry}
-use Rattle.tm_model.specs.Slots.{Empty, Asked, Taken, Answered, no_slot, slot_of}
+use Rattle.tm_model.specs.Slots.{Empty, Asked, Taken, Answered}
 use Rattle.tm_model.specs.Good.{FullBox, FullSlot, FullCore}
 use Rattle.tm_pair.specs.Plain.{core_at}
 use Rattle.tm_pair.specs.declared.plain.PlainTable.{PlainTable}

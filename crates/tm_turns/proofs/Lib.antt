@@ -48,3 +48,4 @@ pub mod Taken
 pub mod Ended
 pub mod Closed
 pub mod Launched
+pub mod Driving

@@ -1,6 +1,6 @@
 -- A round that leaves as much to do brings completions nearer for which clients wait, or moves nothing.
-use Rattle.std.proofs.Common.{◌≡◌, ◌≢◌, ℕ, zero, suc, ◌+◌, ◌*◌, ◌≤◌, ◌<◌, ◌⊎◌, inl, inr, Bool, true, false, List, [], ◌∷◌, length, refl, sym, ◌∙◌, ap, subst, arith}
-use Rattle.std.specs.Prelude.{slice_get, nat_lt, ◌||◌}
+use Rattle.std.proofs.Common.{◌≡◌, ◌≢◌, ℕ, ◌+◌, ◌≤◌, ◌<◌, ◌⊎◌, inl, inr, Bool, List, [], ◌∷◌, length, refl, sym, ◌∙◌, ap, subst, arith}
+use Rattle.std.specs.Prelude.{slice_get}
 use Rattle.std.specs.List.{AllByRecursion, range_with_len}
 use Rattle.std.specs.declared.option.Option.TheVariants.{Some}
 use Rattle.std.proofs.lemmas.Option.{slice_get_within}
@@ -9,27 +9,27 @@ use Rattle.tm_batch.specs.declared.config.Config.{Config}
 use Rattle.tm_batch.specs.declared.config.First.{First}
 use Rattle.tm_batch.specs.declared.message.Request.{Request}
 use Rattle.tm_model.specs.State.{place_count}
-use Rattle.tm_model.specs.Slots.{Empty, Asked}
+use Rattle.tm_model.specs.Slots.{Asked}
 use Rattle.tm_model.specs.Good.{FullSlot}
 use Rattle.tm_pair.specs.Plain.{opening_at}
 use Rattle.tm_pair.specs.declared.plain.PlainTable.{PlainTable}
 use Rattle.tm_trustee.specs.declared.served.Served.{Served}
-use Rattle.tm_trustee.proofs.Elements.{element_at, there_too, set_here}
+use Rattle.tm_trustee.proofs.Elements.{element_at, set_here}
 use Rattle.tm_turns.specs.Whole.{AreOf}
 use Rattle.tm_turns.specs.Going.{ServesAt, Goes, AllGo, GoesRound}
 use Rattle.tm_turns.specs.declared.turns.Turns.{Turns}
-use Rattle.tm_turns.proofs.Falling.{IsLightServe, weight, turn_lessens, serve_lessens, goes_keeps, all_keep, goes_falls, all_fall}
-use Rattle.tm_turns.proofs.Levels.{slot_level, level_empty}
+use Rattle.tm_turns.proofs.Falling.{IsLightServe, weight, turn_lessens, serve_lessens, goes_keeps, goes_falls, all_fall}
+use Rattle.tm_turns.proofs.Levels.{slot_level, level_asked, level_empty}
 use Rattle.tm_turns.proofs.Light.{pending}
 use Rattle.tm_turns.proofs.LightTurns.{ClientStep, client_step, serve_empty, serve_asked}
 use Rattle.tm_turns.proofs.Others.{slot_in, slot_at}
-use Rattle.tm_turns.proofs.Quiet.{at_some, box_in}
+use Rattle.tm_turns.proofs.Quiet.{at_some}
 use Rattle.tm_turns.proofs.Rest.{some_is}
 use Rattle.tm_turns.proofs.Seated.{places_are}
-use Rattle.tm_turns.proofs.Splits.{range_within, SplitAt, split_at, goes_slot, all_same, turn_in}
-use Rattle.tm_turns.proofs.WaitsAbove.{AsksOut}
+use Rattle.tm_turns.proofs.Splits.{range_within, split_at, goes_slot, all_same, turn_in}
 
-weaken : {P Q : ℕ → Type 0} (ks : List ℕ) → ((k : ℕ) → P k → Q k) → AllByRecursion P ks → AllByRecursion Q ks
+-- what holds of each of some numbers, and is more
+pub weaken : {P Q : ℕ → Type 0} (ks : List ℕ) → ((k : ℕ) → P k → Q k) → AllByRecursion P ks → AllByRecursion Q ks
 weaken [] f h = tt
 weaken (k ∷ ks) f h = (f k h.0, weaken ks f h.1)
 
@@ -208,3 +208,42 @@ module _ {V C O R T : Type 0} (kind : Kind V O R T) (laws : KindLaws kind) (conf
             (omega (arith, f1, f2, f3, f4, f5, flat)) out
             )
       ]
+
+  -- in the serving turns of all trustees that leave as much to do each slot at which a batch is asked and of which launches are pending comes nearer
+  pub serve_nearer :
+      (n c t : ℕ) (old new : Turns V C O R T) (slot : FullSlot V O R T) (b : List (Request V O R T)) (room : ℕ) → AreOf kind config first old
+      → AllGo kind (range_with_len config.clients config.trustees) n old new → weight kind old ≤ weight kind new → c < config.clients → t < config.trustees
+      → slot_at old t c ≡ Some slot → slot.box ≡ Asked b room
+      → (1 ≤ pending slot.sent slot.got) × ((then : FullSlot V O R T) × (slot_at new t c ≡ Some then) × (slot_level then + 1 ≤ slot_level slot))
+  serve_nearer n c t old new slot b room are all flat below within at asked =
+      let sq = split_at kind config first config.clients config.trustees (config.clients + t) n old new are (omega arith) (omega (arith, within)) all in
+      let is_rest = sq.is_rest in
+      let are_last = goes_keeps kind (config.clients + t) sq.moved sq.begins sq.ends sq.goes config first sq.are in
+      let f3 = all_fall kind laws config first sq.front sq.before old sq.begins are sq.starts in
+      let f4 = goes_falls kind laws config first (config.clients + t) sq.moved sq.begins sq.ends sq.are sq.goes in
+      let f5 = all_fall kind laws config first (range_with_len (config.clients + t + 1) sq.many) sq.behind sq.ends new are_last sq.follows in
+      let between = others_leave sq.front sq.before t c old sq.begins are
+      (weaken sq.front (λ k h. (λ e. absurd (let low = h.0 in omega (arith, e, low, below)), λ e. absurd (let high = h.1 in omega (arith, e, high)))) sq.within) sq.starts in
+      let behind = others_leave (range_with_len (config.clients + t + 1) sq.many) sq.behind t c sq.ends new are_last
+      (weaken (range_with_len (config.clients + t + 1) sq.many)
+      (λ k h. (λ e. absurd (let low = h.0 in omega (arith, e, low, below)), λ e. absurd (let low = h.0 in omega (arith, e, low)))) (range_within (config.clients + t + 1) sq.many))
+      sq.follows in
+      let l = light_turn t sq.moved sq.begins sq.ends sq.are within sq.goes (omega (arith, f3, f4, f5, flat)) in
+      let (was, at_was, slot_was) = table_there sq.begins t c sq.are within in
+      let is : slot ≡ slot_in c was = some_is slot (slot_in c was) (sym at ∙ sym between ∙ slot_was) in
+      let places = places_are kind config first sq.begins sq.are t was at_was in
+      let found = l.light.slots was at_was c (omega (arith, places, below)) b room (ap (λ (s : FullSlot V O R T). s.box) (sym is) ∙ asked) in
+      let pends : 1 ≤ pending slot.sent slot.got = subst (λ (s : FullSlot V O R T). 1 ≤ pending s.sent s.got) (sym is) found.1 in
+      let level = level_asked (pending slot.sent slot.got) slot.box b room pends asked in (
+        pends,
+        elim (trustee_part c t sq.moved sq.begins sq.ends slot slot sq.are below within sq.goes (omega (arith, f3, f4, f5, flat)) (between ∙ at) pends
+            (record { same = refl; either = inr (level, (b, room, asked)) })) [
+              | inl (then, at_then, nearer) ↦ (then, behind ∙ at_then, nearer)
+              | inr out ↦
+                  absurd
+                  (
+                  asks_answered t sq.many sq.behind sq.ends new are_last (omega (arith, is_rest)) sq.follows
+                  (omega (arith, f3, f4, f5, flat)) out
+                  )
+            ],
+      )

@@ -1,15 +1,11 @@
 -- What light turns make of a slot whose side has launches that are pending: that of its client, and that of its trustee.
-use Rattle.std.proofs.Common.{◌≡◌, ◌≢◌, ℕ, zero, suc, ◌+◌, ◌-◌, ◌≤◌, ◌<◌, ◌⊎◌, inl, inr, true, false, List, [], ◌∷◌, ◌++◌, length, refl, sym, ◌∙◌, ap, subst, arith, append_assoc, append-nil, get_or-set_same}
+use Rattle.std.proofs.Common.{◌≡◌, ℕ, ◌+◌, ◌≤◌, ◌<◌, ◌⊎◌, inl, inr, false, List, [], ◌∷◌, ◌++◌, length, refl, sym, ◌∙◌, ap, subst, arith, append_assoc, append-nil, get_or-set_same}
 use Rattle.std.specs.Prelude.{slice_get}
-use Rattle.std.specs.declared.option.Option.{Option}
 use Rattle.std.specs.declared.option.Option.TheVariants.{None, Some}
-use Rattle.std.proofs.lemmas.Option.{slice_get_within}
 use Rattle.tm_seq.specs.Kind.{Kind}
 use Rattle.tm_batch.specs.declared.config.Config.{Config}
 use Rattle.tm_batch.specs.declared.config.First.{First}
 use Rattle.tm_batch.specs.declared.message.Request.{Request}
-use Rattle.tm_batch.specs.declared.message.Answer.{Answer}
-use Rattle.tm_batch.specs.declared.message.Completion.{Completion}
 use Rattle.tm_batch.specs.declared.message.AnswerBatch.{AnswerBatch}
 use Rattle.tm_model.specs.declared.entry.Entry.{Entry}
 use Rattle.tm_model.specs.declared.entry.Entry.TheVariants.{Sent as Leaves}
@@ -20,16 +16,16 @@ use Rattle.tm_model.specs.Good.{FullBox, FullCore, FullSlot, unserved, got_with}
 use Rattle.tm_model.specs.Holds.{launches_in, ended_in, spent_in, unfinished}
 use Rattle.tm_core.proofs.Joins.{state-append}
 use Rattle.tm_core.proofs.Tallies.{ended_in-append}
-use Rattle.tm_pair.specs.Views.{BatchView, ClientView, TrusteeView, hand_of}
+use Rattle.tm_pair.specs.Views.{ClientView, TrusteeView, hand_of}
 use Rattle.tm_pair.specs.SideViews.{batch_out, hand_in, client_of}
 use Rattle.tm_pair.specs.Plain.{opening_at, core_at, client_at, trustee_at, IsClientOf, plain_theory}
 use Rattle.tm_pair.specs.declared.plain.PlainTable.{PlainTable}
-use Rattle.tm_trustee.specs.Serving.{resumes_in, done_by}
+use Rattle.tm_trustee.specs.Serving.{done_by}
 use Rattle.tm_trustee.specs.declared.served.Served.{Served}
 use Rattle.tm_trustee.proofs.Elements.{element_at}
 use Rattle.tm_client.specs.declared.answers.Turn.{Turn}
 use Rattle.tm_client.specs.declared.answers.Turn.TheVariants.{Sent, Pending, Got, Idle}
-use Rattle.tm_turns.specs.Whole.{OneLane, OneTrustee, HasLane, AreOf}
+use Rattle.tm_turns.specs.Whole.{OneLane, HasLane, AreOf}
 use Rattle.tm_turns.specs.Going.{TurnsAt, ServesAt}
 use Rattle.tm_turns.specs.declared.turns.Turns.{Turns}
 use Rattle.tm_turns.proofs.Asked.{collect_none}
@@ -81,7 +77,7 @@ module _ {V O R T : Type 0} where
 module _ {V C O R T : Type 0} (kind : Kind V O R T) (config : Config) (first : List (First V)) where
   module _ (c t : ℕ) (old new : Turns V C O R T) (are : AreOf kind config first old) (t_below : t < config.trustees) where
     -- the slot that a side of place c of a table shows
-    shown :
+    pub shown :
         (table : PlainTable V O R T) (lane : OneLane V C O R T) → IsClientOf kind table lane.side → (client_at lane.side).place ≡ c
         → client_at lane.side ≡ client_of c (slot_in c table)
     shown table lane mine place = mine.view ∙ ap (λ k. client_of k (slot_of (core_at table) k)) place
@@ -89,7 +85,7 @@ module _ {V C O R T : Type 0} (kind : Kind V O R T) (config : Config) (first : L
     has_lane : (answer : Turn) (is : TurnsAt kind c t answer old new) → HasLane old c t is.turned.lane
     has_lane answer is = record { client = is.client; of_client = is.of_client; of_lane = is.turned.turns.of_lane }
 
-    shown_was : (answer : Turn) (is : TurnsAt kind c t answer old new) → client_at is.turned.lane.side ≡ client_of c (slot_in c is.was)
+    pub shown_was : (answer : Turn) (is : TurnsAt kind c t answer old new) → client_at is.turned.lane.side ≡ client_of c (slot_in c is.was)
     shown_was answer is = lane_shows kind config first old are t c is.was is.turned.lane is.of_table (has_lane answer is)
 
     within : (answer : Turn) (is : TurnsAt kind c t answer old new) → c < length (core_at is.was).slots

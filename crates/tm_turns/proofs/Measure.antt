@@ -1,7 +1,7 @@
 -- Each round in which something moves lessens what is to do, or brings a completion nearer for which a client waits.
-use Rattle.std.proofs.Common.{◌≡◌, ◌≢◌, ℕ, zero, suc, ◌+◌, ◌*◌, ◌-◌, ◌^◌, ◌≤◌, ◌<◌, ◌⊎◌, inl, inr, Bool, true, false, cond, List, [], ◌∷◌, length, min, slice_index_or, refl, sym, ◌∙◌, ap, subst, arith}
+use Rattle.std.proofs.Common.{◌≡◌, ℕ, zero, suc, ◌+◌, ◌*◌, ◌-◌, ◌^◌, ◌≤◌, ◌<◌, ◌⊎◌, inl, inr, Bool, true, false, cond, List, [], ◌∷◌, length, min, slice_index_or, refl, sym, ◌∙◌, ap, subst, arith}
 use Rattle.std.specs.Prelude.{slice_get, nat_lt, ◌||◌}
-use Rattle.std.specs.declared.option.Option.TheVariants.{None, Some}
+use Rattle.std.specs.declared.option.Option.TheVariants.{Some}
 use Rattle.std.proofs.lemmas.Bool.{cases_lt}
 use Rattle.std.proofs.lemmas.Option.{slice_get_within, slice_get-get_or}
 use Rattle.tm_seq.specs.Kind.{Kind, KindLaws}
@@ -11,13 +11,13 @@ use Rattle.tm_batch.specs.declared.message.Request.{Request}
 use Rattle.tm_model.specs.Holds.{launches_in}
 use Rattle.tm_model.specs.State.{State, place_count}
 use Rattle.tm_model.specs.Slots.{Asked, no_slot, slot_of, looked}
-use Rattle.tm_model.specs.Good.{FullBox, FullSlot}
+use Rattle.tm_model.specs.Good.{FullSlot}
 use Rattle.tm_pair.specs.Views.{ClientView, looks_at, no_looks}
-use Rattle.tm_pair.specs.Plain.{opening_at, core_at, client_at, trustee_at, IsTrusteeOf, plain_theory}
+use Rattle.tm_pair.specs.Plain.{opening_at, core_at, client_at, trustee_at, plain_theory}
 use Rattle.tm_pair.specs.declared.plain.PlainTable.{PlainTable}
 use Rattle.tm_pair.specs.declared.plain.PlainClient.{PlainClient}
 use Rattle.tm_pair.specs.declared.plain.PlainTrustee.{PlainTrustee}
-use Rattle.tm_trustee.specs.Places.{ServesPlace, ServesBelow, found_below}
+use Rattle.tm_trustee.specs.Places.{ServesBelow, found_below}
 use Rattle.tm_trustee.specs.Serving.{resumes_in, done_by}
 use Rattle.tm_trustee.specs.declared.served.Served.{Served}
 use Rattle.tm_trustee.proofs.Elements.{element_at, there_too, mapped}
@@ -25,7 +25,7 @@ use Rattle.tm_trustee.proofs.Serving.{found_one_more}
 use Rattle.tm_trustee.proofs.TurningReady.{own_table, at_home}
 use Rattle.tm_client.specs.declared.answers.Turn.{Turn}
 use Rattle.tm_client.specs.declared.answers.Turn.TheVariants.{Sent, Pending, Got, Idle}
-use Rattle.tm_turns.specs.Whole.{OneLane, HasLane, AreOf, AreTurns}
+use Rattle.tm_turns.specs.Whole.{OneLane, HasLane, AreOf}
 use Rattle.tm_turns.specs.Going.{has_moved, TurnsAt, TurnsBelow, ServesAt, Goes, AllGo, GoesRound}
 use Rattle.tm_turns.specs.declared.turns.Turns.{Turns}
 use Rattle.tm_turns.proofs.AskedServed.{passed_found}
@@ -35,9 +35,9 @@ use Rattle.tm_turns.proofs.Light.{pending}
 use Rattle.tm_turns.proofs.LightRound.{table_there, round_nearer}
 use Rattle.tm_turns.proofs.Ones.{one_of, bool_cases}
 use Rattle.tm_turns.proofs.Others.{slot_in, slot_at}
-use Rattle.tm_turns.proofs.Quiet.{at_some, flat, Marks, marks, marks_of, marks_at, Still, turn_still}
+use Rattle.tm_turns.proofs.Quiet.{at_some, flat, Marks, marks, marks_of, marks_at, Still}
 use Rattle.tm_turns.proofs.Rest.{some_is, below_still, goes_still}
-use Rattle.tm_turns.proofs.Seated.{LaneAt, SeatAt, side_at, lane_shows, seat_shows, table_below, places_are, home_at}
+use Rattle.tm_turns.proofs.Seated.{side_at, lane_shows, seat_shows, table_below, places_are, home_at}
 use Rattle.tm_turns.proofs.ServedWeighs.{places_other}
 use Rattle.tm_turns.proofs.Unlaunched.{launches_none}
 use Rattle.tm_turns.proofs.Weights.{IsLight, pending_at}

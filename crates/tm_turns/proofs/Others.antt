@@ -1,10 +1,9 @@
 -- What a turn leaves as it is: the slots of other places, the lanes of other clients, and other trustees.
-use Rattle.std.proofs.Common.{◌≡◌, ◌≢◌, ℕ, zero, suc, ◌+◌, ◌-◌, ◌≤◌, ◌<◌, inl, inr, Bool, List, [], ◌∷◌, length, refl, sym, ◌∙◌, ap, subst, arith, get_or-set_other}
-use Rattle.std.specs.Prelude.{slice_get, slice_set}
-use Rattle.std.specs.List.{AllByRecursion, range_with_len}
+use Rattle.std.proofs.Common.{◌≡◌, ◌≢◌, ℕ, zero, suc, ◌+◌, ◌-◌, inl, inr, List, [], ◌∷◌, length, refl, sym, ◌∙◌, ap, subst, arith, get_or-set_other}
+use Rattle.std.specs.Prelude.{slice_get}
 use Rattle.std.specs.declared.option.Option.{Option}
-use Rattle.std.specs.declared.option.Option.TheVariants.{None, Some}
-use Rattle.std.proofs.lemmas.Bool.{cases_eq, cases_order}
+use Rattle.std.specs.declared.option.Option.TheVariants.{Some}
+use Rattle.std.proofs.lemmas.Bool.{cases_order}
 use Rattle.std.proofs.lemmas.Option.{slice_get_within}
 use Rattle.tm_seq.specs.Kind.{Kind}
 use Rattle.tm_batch.specs.declared.config.Config.{Config}
@@ -14,8 +13,7 @@ use Rattle.tm_model.specs.Good.{FullCore, FullSlot}
 use Rattle.tm_model.specs.Slots.{no_slot, slot_of, publish, collect}
 use Rattle.tm_pair.specs.Views.{ClientView}
 use Rattle.tm_pair.specs.Calls.{Collects}
-use Rattle.tm_pair.specs.Moves.{answers_found}
-use Rattle.tm_pair.specs.Plain.{core_at, client_at, HasDone, plain_theory}
+use Rattle.tm_pair.specs.Plain.{core_at, client_at, plain_theory}
 use Rattle.tm_pair.specs.declared.table.Collected.{Collected}
 use Rattle.tm_pair.specs.declared.table.Collected.TheVariants.{Answers, Pending as Waiting, Idle as Nothing}
 use Rattle.tm_pair.specs.declared.plain.PlainTable.{PlainTable}
@@ -27,12 +25,11 @@ use Rattle.tm_trustee.proofs.TurningReady.{own_table, at_home}
 use Rattle.tm_client.specs.declared.answers.Turn.{Turn}
 use Rattle.tm_client.specs.declared.answers.Turn.TheVariants.{Sent, Pending, Got, Idle}
 use Rattle.tm_turns.specs.Whole.{OneClient, OneLane, OneTrustee, AreOf}
-use Rattle.tm_turns.specs.Going.{TurnsAt, TurnsBelow, ServesAt, Goes, AllGo}
+use Rattle.tm_turns.specs.Going.{TurnsAt, ServesAt}
 use Rattle.tm_turns.specs.declared.turns.Turns.{Turns}
 use Rattle.tm_turns.proofs.TurnKeeps.{place_of_lane}
 use Rattle.tm_turns.proofs.ServeKeeps.{clients_of}
 use Rattle.tm_turns.proofs.Quiet.{at_some, some_set, flat}
-use Rattle.tm_turns.proofs.Falling.{below_keeps, goes_keeps}
 
 module _ {V O R T : Type 0} where
   -- the slot of place p of a table

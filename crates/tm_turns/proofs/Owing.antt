@@ -1,24 +1,22 @@
 -- What a log owes a place: completions that are ready go with its next answer batch, and the first launch of some object is there while any
 -- launch of the place is unfinished.
-use Rattle.std.proofs.Common.{◌≡◌, ◌≢◌, ℕ, zero, suc, ◌+◌, ◌≤◌, ◌<◌, inl, inr, true, false, cond, List, [], ◌∷◌, ◌++◌, length, take, drop, slice_index_or, slice_set, refl, sym, ◌∙◌, ap, subst, arith, eq-eqb, ne_eqb, append-nil, append_assoc, length-append, length-drop, get_or-set_same, get_or-set_other}
-use Rattle.std.specs.Prelude.{◌==◌}
-use Rattle.std.specs.List.{AllByRecursion, AllZip}
+use Rattle.std.proofs.Common.{◌≡◌, ◌≢◌, ℕ, zero, suc, ◌+◌, ◌≤◌, inl, inr, cond, List, [], ◌∷◌, ◌++◌, length, take, drop, slice_index_or, slice_set, refl, sym, ◌∙◌, ap, subst, arith, eq-eqb, ne_eqb, length-drop, get_or-set_same, get_or-set_other}
+use Rattle.std.specs.List.{AllZip}
 use Rattle.std.specs.declared.option.Option.TheVariants.{Some}
 use Rattle.std.proofs.lemmas.Bool.{cases_eq, cases_lt}
-use Rattle.std.proofs.lemmas.List.{get_or_past, set_past}
+use Rattle.std.proofs.lemmas.List.{set_past}
 use Rattle.tm_seq.specs.Kind.{Kind}
 use Rattle.tm_batch.specs.declared.limits.TheConstants.{MOST_COMPLETIONS}
 use Rattle.tm_batch.specs.declared.message.Request.{Request}
 use Rattle.tm_batch.specs.declared.message.Request.TheVariants.{Entrust, Apply, Launch, Grant, Release, Reclaim, Bye}
 use Rattle.tm_batch.specs.declared.message.Answer.{Answer}
 use Rattle.tm_batch.specs.declared.message.Answer.TheVariants.{Entrusted, NotEntrusted, Replied, Launched, TicketsSpent, Granted, Gone, GiftsFull, Released, Reclaimed, Shared, ByeDone}
-use Rattle.tm_batch.specs.declared.message.Completion.{Completion}
 use Rattle.tm_batch.specs.declared.message.AnswerBatch.{AnswerBatch}
 use Rattle.tm_model.specs.declared.entry.Entry.{Entry}
 use Rattle.tm_model.specs.declared.entry.Entry.TheVariants.{By, Resume, Sent}
 use Rattle.tm_model.specs.Lists.{EndsIn}
 use Rattle.tm_model.specs.State.{Work, Object, Place, State, no_place, place_of, object_of}
-use Rattle.tm_model.specs.Serve.{works_in, served, sent_off, after, state_after}
+use Rattle.tm_model.specs.Serve.{served, sent_off, after, state_after}
 use Rattle.tm_model.specs.Entries.{AreResumes}
 use Rattle.tm_model.specs.Batches.{leaving, batches_from, batches}
 use Rattle.tm_model.specs.Ran.{waiting_after}
@@ -28,7 +26,7 @@ use Rattle.tm_model.specs.Fits.{Fits}
 use Rattle.tm_core.proofs.Joins.{state-append, batches_join}
 use Rattle.tm_core.proofs.Places.{place_field}
 use Rattle.tm_core.proofs.Rising.{RisesTo}
-use Rattle.tm_trustee.specs.NestedAsks.{works_at, asked_by, replied_in}
+use Rattle.tm_trustee.specs.NestedAsks.{asked_by, replied_in}
 use Rattle.tm_trustee.specs.Serving.{resumes_in}
 use Rattle.tm_turns.proofs.Spending.{resumes_in-append}
 

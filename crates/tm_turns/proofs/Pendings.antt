@@ -1,5 +1,5 @@
 -- What a lane that fetches or rests tells of its launches that are pending.
-use Rattle.std.proofs.Common.{◌≡◌, ◌≢◌, ℕ, ◌+◌, ◌-◌, ◌≤◌, ◌⊎◌, inl, inr, true, false, List, [], ◌∷◌, length, refl, sym, ◌∙◌, ap, arith}
+use Rattle.std.proofs.Common.{◌≡◌, ◌≢◌, ℕ, ◌+◌, ◌≤◌, inl, inr, List, [], ◌∷◌, length, refl, ◌∙◌, ap, arith}
 use Rattle.std.specs.declared.option.Option.{Option}
 use Rattle.std.specs.declared.option.Option.TheVariants.{None}
 use Rattle.std.proofs.lemmas.Bool.{cases_eq}
@@ -28,7 +28,7 @@ some_there (x ∷ xs) ne = omega arith
 module _ {V C O R T : Type 0} (kind : Kind V O R T) (config : Config) (first : List (First V)) (turns : Turns V C O R T) (c t : ℕ) (lane : OneLane V C O R T)
     (are : AreOf kind config first turns) (has : HasLane turns c t lane) where
   -- the launches that are pending are those that are out, and those that lack their completion
-  pending_are :
+  pub pending_are :
       pending_at (client_at lane.side) ≡ launches_in (out_requests (client_at lane.side).out) + length lane.launched.items
   pending_are =
       let within = slice_get_within has.client.books.lanes.items t lane has.of_lane in

@@ -1,5 +1,5 @@
 -- What serving the places of a table makes of one of its slots, where a light batch was asked there or nothing.
-use Rattle.std.proofs.Common.{◌≡◌, ◌≢◌, ℕ, zero, suc, ◌+◌, ◌≤◌, ◌<◌, inl, inr, true, List, [], ◌∷◌, ◌++◌, length, refl, sym, ◌∙◌, ap, subst, arith, append_assoc, append-nil, get_or-set_same}
+use Rattle.std.proofs.Common.{◌≡◌, ◌≢◌, ℕ, zero, suc, ◌≤◌, ◌<◌, inl, inr, true, List, [], ◌∷◌, ◌++◌, length, sym, ◌∙◌, ap, subst, arith, append_assoc, append-nil, get_or-set_same}
 use Rattle.std.specs.Prelude.{IsSomeAnd}
 use Rattle.std.specs.declared.option.Option.{Option}
 use Rattle.std.proofs.lemmas.Bool.{cases_eq}
@@ -11,7 +11,7 @@ use Rattle.tm_model.specs.declared.entry.Entry.TheVariants.{Sent}
 use Rattle.tm_model.specs.Lists.{IsPrefix, EndsIn}
 use Rattle.tm_model.specs.State.{State, place_count}
 use Rattle.tm_model.specs.Slots.{Empty, Asked, Taken, Answered, no_slot, slot_of, is_asked, taken, see, looked, answered}
-use Rattle.tm_model.specs.Entries.{AreResumes, added}
+use Rattle.tm_model.specs.Entries.{added}
 use Rattle.tm_model.specs.Answering.{MayGrow, answer_with}
 use Rattle.tm_model.specs.Batches.{batches}
 use Rattle.tm_model.specs.Good.{FullBox, FullCore, FullSlot}

@@ -1,7 +1,6 @@
 -- What a trustee has resumed and asked above is paid by the work of the launches that it accepted.
-use Rattle.std.proofs.Common.{◌≡◌, ℕ, zero, suc, ◌+◌, ◌*◌, ◌≤◌, ◌<◌, inl, inr, Bool, true, false, cond, List, [], ◌∷◌, ◌++◌, length, map, refl, sym, ◌∙◌, ap, subst, arith, eq-eqb, ne_eqb, length-append}
-use Rattle.std.specs.Prelude.{◌==◌, ◌&&◌, nat_lt, slice_get}
-use Rattle.std.specs.declared.option.Option.TheVariants.{Some}
+use Rattle.std.proofs.Common.{◌≡◌, ℕ, zero, suc, ◌+◌, ◌*◌, ◌≤◌, ◌<◌, inl, inr, Bool, true, false, cond, List, [], ◌∷◌, ◌++◌, length, refl, sym, ◌∙◌, ap, subst, arith, ne_eqb, length-append}
+use Rattle.std.specs.Prelude.{◌==◌, ◌&&◌, nat_lt}
 use Rattle.std.proofs.lemmas.Bool.{cases_eq}
 use Rattle.std.proofs.lemmas.List.{length-map}
 use Rattle.tm_seq.specs.Kind.{Kind, KindLaws}
@@ -9,13 +8,10 @@ use Rattle.tm_seq.specs.declared.kind.Event.{Event}
 use Rattle.tm_seq.specs.declared.kind.Next.{Next}
 use Rattle.tm_seq.specs.declared.kind.Next.TheVariants.{Ask, Done}
 use Rattle.tm_batch.specs.declared.message.Request.{Request}
-use Rattle.tm_batch.specs.declared.message.Request.TheVariants.{Entrust, Apply, Launch, Grant, Release, Reclaim, Bye}
 use Rattle.tm_batch.specs.declared.message.Answer.{Answer}
-use Rattle.tm_batch.specs.declared.message.Answer.TheVariants.{Launched}
 use Rattle.tm_model.specs.declared.entry.Entry.{Entry}
 use Rattle.tm_model.specs.declared.entry.Entry.TheVariants.{By, Resume, Sent}
 use Rattle.tm_model.specs.State.{Setup, State, ids_above}
-use Rattle.tm_model.specs.Entries.{AreResumes, entries_by}
 use Rattle.tm_pair.specs.Views.{ClientView}
 use Rattle.tm_pair.specs.Theory.{Theory}
 use Rattle.tm_client.specs.Clients.{total}
@@ -25,7 +21,7 @@ use Rattle.tm_trustee.specs.Lanes.{IsLane}
 use Rattle.tm_trustee.specs.Serving.{resumes_in, GrowsInOrder, AreLanes, IsServing, done_by, ups_of}
 use Rattle.tm_trustee.specs.declared.lane.Lane.{Lane}
 use Rattle.tm_trustee.specs.declared.trustee.Trustee.{Trustee}
-use Rattle.tm_turns.proofs.Works.{begun, work, spent, spent_by, spent_most}
+use Rattle.tm_turns.proofs.Works.{begun, spent, spent_most}
 
 -- of trustees from a number on, so many are asked by a resume that asks trustee v
 abbrev asked_from : {O R T : Type 0} → Setup → ℕ → ℕ → ℕ → ℕ → Next O T R → ℕ

@@ -12,11 +12,12 @@ use Rattle.tm_client.specs.declared.answers.Turn.{Turn}
 use Rattle.tm_turns.specs.Whole.{OneTrustee}
 use Rattle.tm_turns.specs.Going.{TurnsAt, ServesAt}
 use Rattle.tm_turns.specs.declared.turns.Turns.{Turns}
-use Rattle.tm_turns.proofs.TurnKeeps.{IsTurn, turn_keeps}
+use Rattle.tm_turns.specs.Driving.{TurnedAt}
+use Rattle.tm_turns.proofs.TurnKeeps.{turn_keeps}
 use Rattle.tm_turns.proofs.ServeKeeps.{serve_keeps}
 
 module _ {V C O R T : Type 0} (kind : Kind V O R T) where
-  pub turned_at : (c t : ℕ) (answer : Turn) (old new : Turns V C O R T) → IsTurn kind c t answer old new → TurnsAt kind c t answer old new
+  pub turned_at : (c t : ℕ) (answer : Turn) (old new : Turns V C O R T) → TurnedAt kind c t answer old new → TurnsAt kind c t answer old new
   turned_at c t answer old new is = record {
     client = is.client;
     becomes = is.becomes;

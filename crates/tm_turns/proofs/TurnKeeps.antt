@@ -14,9 +14,9 @@ use Rattle.tm_trustee.proofs.Elements.{set_cases}
 use Rattle.tm_trustee.specs.Tables.{IsReady}
 use Rattle.tm_trustee.proofs.TurningReady.{at_home, own_table}
 use Rattle.tm_client.specs.Clients.{IsClient}
-use Rattle.tm_client.specs.Turns.{HasTurned}
 use Rattle.tm_client.specs.declared.answers.Turn.{Turn}
 use Rattle.tm_turns.specs.Whole.{OneClient, OneLane, OneTrustee, AreOf, Keeps}
+use Rattle.tm_turns.specs.Driving.{TurnedAt}
 use Rattle.tm_turns.specs.declared.turns.Turns.{Turns}
 use Rattle.tm_turns.proofs.Staying.{joined, still_ready}
 
@@ -37,23 +37,7 @@ module _ {V C O R T : Type 0} (kind : Kind V O R T) where
   client_below config first turns c t client lane are at of =
       let (number, many, is) = are.clients c client at in subst (λ n. n < config.clients) number (is.lanes t lane of).client
 
-  -- what a client's turn at one trustee was
-  pub record IsTurn (c t : ℕ) (answer : Turn) (old new : Turns V C O R T) : Type 0 where
-    pub client : OneClient V C O R T
-    pub becomes : OneClient V C O R T
-    pub was : PlainTable V O R T
-    pub now : PlainTable V O R T
-    pub of_client : slice_get old.clients.items c ≡ Some client
-    pub of_table : slice_get old.tables.items t ≡ Some was
-    pub turned : HasTurned (plain_theory kind) kind t answer was now client.books becomes.books
-    pub still : (openings : ℕ → State V O R T) → openings t ≡ opening_at was
-        → IsClient (plain_theory kind).client_view openings client.books → IsClient (plain_theory kind).client_view openings becomes.books
-    pub clients : new.clients.items ≡ slice_set old.clients.items c becomes
-    pub tables : new.tables.items ≡ slice_set old.tables.items t now
-    pub trustees : new.trustees ≡ old.trustees
-    pub counts : new.counts ≡ old.counts
-
-  module _ (c t : ℕ) (answer : Turn) (old new : Turns V C O R T) (is : IsTurn c t answer old new)
+  module _ (c t : ℕ) (answer : Turn) (old new : Turns V C O R T) (is : TurnedAt kind c t answer old new)
       (config : Config) (first : List (First V)) (are : AreOf kind config first old) where
     one_table :
         (k : ℕ) (table : PlainTable V O R T) → slice_get new.tables.items k ≡ Some table → opening_at table ≡ opening_of k config first
@@ -174,5 +158,5 @@ module _ {V C O R T : Type 0} (kind : Kind V O R T) where
       counts_room = subst (λ xs. config.trustees ≤ vec_capacity xs) (sym is.counts) are.counts_room;
     }
 
-  pub turn_keeps : (c t : ℕ) (answer : Turn) (old new : Turns V C O R T) → IsTurn c t answer old new → Keeps kind old new
+  pub turn_keeps : (c t : ℕ) (answer : Turn) (old new : Turns V C O R T) → TurnedAt kind c t answer old new → Keeps kind old new
   turn_keeps c t answer old new is config first are = keeps_all c t answer old new is config first are

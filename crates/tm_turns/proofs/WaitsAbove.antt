@@ -1,5 +1,5 @@
 -- Behind a light serving turn an unfinished launch means that a batch of asks is out above, at a greater trustee.
-use Rattle.std.proofs.Common.{◌≡◌, ◌≢◌, ℕ, zero, suc, ◌+◌, ◌-◌, ◌≤◌, ◌<◌, ◌⊎◌, inl, inr, true, false, List, [], ◌∷◌, ◌++◌, length, map, drop, slice_index_or, refl, sym, ◌∙◌, ap, subst, arith, length-drop, append-nil}
+use Rattle.std.proofs.Common.{◌≡◌, ◌≢◌, ℕ, ◌+◌, ◌-◌, ◌≤◌, ◌<◌, ◌⊎◌, inl, inr, false, List, [], ◌∷◌, ◌++◌, length, map, slice_index_or, refl, sym, ◌∙◌, ap, subst, arith, length-drop, append-nil}
 use Rattle.std.specs.Prelude.{slice_get, IsSome, nat_lt, cond}
 use Rattle.std.specs.List.{AllByRecursion, AllZip, range_with_len}
 use Rattle.std.specs.declared.option.Option.{Option}
@@ -14,8 +14,8 @@ use Rattle.tm_batch.specs.declared.config.First.{First}
 use Rattle.tm_batch.specs.declared.message.Request.{Request}
 use Rattle.tm_batch.specs.declared.message.AnswerBatch.{AnswerBatch}
 use Rattle.tm_model.specs.declared.entry.Entry.{Entry}
-use Rattle.tm_model.specs.State.{Awaits, Start, AskOf, Work, Setup, Object, State, ids_above, place_count, object_of}
-use Rattle.tm_model.specs.Opening.{opening_of, ids_at}
+use Rattle.tm_model.specs.State.{Awaits, Start, AskOf, Setup, State, ids_above, place_count}
+use Rattle.tm_model.specs.Opening.{ids_at}
 use Rattle.tm_model.specs.Serve.{works_in, state_after}
 use Rattle.tm_model.specs.Legal.{IsLegal}
 use Rattle.tm_model.specs.Laws.{IsOpening, IsSoundObject}
@@ -36,25 +36,24 @@ use Rattle.tm_pair.specs.Plain.{opening_at, core_at, client_at, trustee_at, plai
 use Rattle.tm_pair.specs.declared.plain.PlainTable.{PlainTable}
 use Rattle.tm_pair.specs.declared.plain.PlainClient.{PlainClient}
 use Rattle.tm_state.specs.Asking.{HaveAllEnded}
-use Rattle.tm_trustee.specs.Above.{one_if, moves_up, unsent, ExchangesAt, SaysByeAt, GoesUpAt}
-use Rattle.tm_trustee.specs.Awaiting.{IsAskAt, IsWaiting}
+use Rattle.tm_trustee.specs.Above.{one_if, moves_up, unsent, GoesUpAt}
+use Rattle.tm_trustee.specs.Awaiting.{IsAskAt}
 use Rattle.tm_trustee.specs.Lanes.{IsLane}
-use Rattle.tm_trustee.specs.NestedAsks.{NestedAsk, target, asks_of, replies_of, pending_of, works_at, asked_by, replied_in, IsAmong}
-use Rattle.tm_trustee.specs.Serving.{IsServing, resumes_in, done_by, ups_of}
+use Rattle.tm_trustee.specs.NestedAsks.{NestedAsk, target, asks_of, replies_of, pending_of, works_at, asked_by, IsAmong}
+use Rattle.tm_trustee.specs.Serving.{IsServing, resumes_in, done_by}
 use Rattle.tm_trustee.specs.declared.lane.Lane.{Lane}
 use Rattle.tm_trustee.specs.declared.served.Served.{Served}
 use Rattle.tm_trustee.proofs.Elements.{element_at, there_too, mapped, set_here}
 use Rattle.tm_trustee.proofs.Runs.{asks_of-append, quiet_asks}
-use Rattle.tm_trustee.proofs.TurningReady.{own_table, at_home}
 use Rattle.tm_client.proofs.Living.{answers_are, answers_fitting}
-use Rattle.tm_turns.specs.Whole.{OneTrustee, AreOf}
+use Rattle.tm_turns.specs.Whole.{AreOf}
 use Rattle.tm_turns.specs.Going.{ServesAt}
 use Rattle.tm_turns.specs.declared.turns.Turns.{Turns}
 use Rattle.tm_turns.proofs.AtRest.{hand_at}
 use Rattle.tm_turns.proofs.Falling.{IsLightServe}
 use Rattle.tm_turns.proofs.Others.{seats_stay}
-use Rattle.tm_turns.proofs.Owing.{runs_in, runs_in-append, resumes_run, tickets_most, asked_replied, HasWork, has_work}
-use Rattle.tm_turns.proofs.Quiet.{box_in, UpStays, up_stays, moved_none}
+use Rattle.tm_turns.proofs.Owing.{runs_in, runs_in-append, tickets_most, asked_replied, has_work}
+use Rattle.tm_turns.proofs.Quiet.{box_in, up_stays, moved_none}
 use Rattle.tm_turns.proofs.Seated.{home_at}
 use Rattle.tm_turns.proofs.ServeKeeps.{clients_of}
 use Rattle.tm_turns.proofs.Spending.{resumes_in-append}

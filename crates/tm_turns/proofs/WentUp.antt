@@ -1,11 +1,11 @@
 -- What a serving turn did at a side above at which it moved nothing: it looked there, and sent nothing that its work asked.
-use Rattle.std.proofs.Common.{◌≡◌, ◌≢◌, ℕ, ◌+◌, ◌≤◌, inl, inr, List, [], length, refl, sym, ◌∙◌, ap, subst, arith}
+use Rattle.std.proofs.Common.{◌≡◌, ℕ, ◌+◌, ◌≤◌, inl, inr, List, length, ap, arith}
 use Rattle.std.specs.Prelude.{IsSome}
 use Rattle.std.specs.declared.option.Option.{Option}
 use Rattle.std.specs.declared.option.Option.TheVariants.{None, Some}
 use Rattle.tm_seq.specs.Kind.{Kind}
 use Rattle.tm_batch.specs.declared.message.AnswerBatch.{AnswerBatch}
-use Rattle.tm_pair.specs.Views.{BatchView, ClientView}
+use Rattle.tm_pair.specs.Views.{BatchView}
 use Rattle.tm_pair.specs.Calls.{Collects, OnLook}
 use Rattle.tm_pair.specs.Moves.{answers_found}
 use Rattle.tm_pair.specs.Plain.{client_at, IsClientOf, HasDone, plain_theory}

@@ -5,3 +5,4 @@ pub mod Opening
 pub mod Making
 pub mod Closing
 pub mod Laws
+pub mod Driving

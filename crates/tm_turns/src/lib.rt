@@ -15,4 +15,4 @@ mod opened;
 mod turns;
 
 pub use laws::{asks_are_tied, launches_are_latched};
-pub use turns::{Turns, calls_keep, one_good_core};
+pub use turns::{Turns, calls_keep, deeds_keep, driving_ends, one_good_core};

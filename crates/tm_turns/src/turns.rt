@@ -3,6 +3,7 @@ ghost use Rattle.std.specs.Prelude.{◌≡◌, ℕ, ◌+◌, ◌<◌, ◌≤◌,
 ghost use Rattle.tm_turns.specs.Whole.{AreTurns, Keeps, OneGoodCoreEach, CallsKeep};
 ghost use Rattle.tm_turns.specs.Going.{TurnsAt, TurnsBelow, ServesAt, Serves, Goes, AllGo, GoesRound, HasRun, has_moved};
 ghost use Rattle.tm_turns.specs.Resting.{AreAtRest};
+ghost use Rattle.tm_turns.specs.Driving.{DeedsKeep, DrivingEnds, ServesEach};
 
 use tm_base::Gate;
 use tm_client::{Client, Turn};
@@ -36,6 +37,18 @@ pub fn one_good_core<S: FitsTable, C: Drop>(turns: &Turns<S, C>)
 /// so that turns may be made after it.
 pub fn calls_keep<S: FitsTable, C: Drop>()
     ensures { CallsKeep C S.kind }
+{}
+
+/// A turn that a client makes at its trustee's table by itself, and not by a call of [`Turns`], leaves everything that of one
+/// build: so that a client may be driven from outside.
+pub fn deeds_keep<S: FitsTable, C: Drop>()
+    ensures { DeedsKeep C S.kind }
+{}
+
+/// Who drives a client comes to an end: there is a number that what the client takes leaves, that each of its turns which
+/// moves something lessens, and so do the serving turns of all trustees where it awaits answers.
+pub fn driving_ends<S: FitsTable, C: Drop>()
+    ensures { DrivingEnds C S.kind }
 {}
 
 /// Whether one of two things holds.
@@ -103,6 +116,21 @@ impl<S: FitsTable, C: Drop> Turns<S, C> {
     {
         self.serve(trustee as u32, gate);
         self.trustees[trustee].moved() > 0
+    }
+
+    /// Makes one serving turn of each trustee, in order. How many of them moved something.
+    pub fn serve_all<G: Gate>(&mut self, gate: &G) -> u64
+        requires are { AreTurns S.kind self.old }
+        ensures serves { ServesEach S.kind result self.old self.new }
+        // No client changes.
+        ensures clients { self.new.clients ≡ self.old.clients }
+        ensures keeps { Keeps S.kind self.old self.new }
+    {
+        let mut moved = 0;
+        for trustee in 0..self.trustees.len() {
+            moved += u64::from(self.serve_one(trustee, gate));
+        }
+        moved
     }
 
     /// Makes the turn of a number. Whether it moved something.
