@@ -119,6 +119,21 @@ impl Intake {
         if self.from < self.to { false } else { true }
     }
 
+    /// How many more bytes are within the limit.
+    pub fn left(&self) -> u64
+        ensures { result ≡ self.now.left }
+    {
+        self.left
+    }
+
+    /// How many bytes were read and are not fed.
+    pub fn unfed(&self) -> usize
+        requires { (limit : ℕ) × (text : List ℕ) × (messages : List Message) × IsIntake limit text messages self.now }
+        ensures { result ≡ length (unfed self.now) }
+    {
+        self.to - self.from
+    }
+
     /// Whether no byte of a further message was fed.
     pub fn is_between(&self) -> bool
         ensures { (limit : ℕ) (text : List ℕ) (messages : List Message) (i : IsIntake limit text messages self.now) → IsTrue result ↔ (i.is_read.held ≡ []) }

@@ -56,7 +56,7 @@ module _ (old : Session) (fed : Intake) (feeds : FeedsOnly old.intake fed) (some
 
   pub writes_less : (told told_now : Option (List ℕ)) (faults faults_now : ℕ) (new : Session) → old.stopped ≡ None
       → HasWritten told told_now faults faults_now (record old { intake = fed }) new → IsLess (before_of new) (before_of old)
-  writes_less told told_now faults faults_now new running (inl (grows, e)) = less_by old new (record old { intake = fed; gathered = [] }) e all_written_less
+  writes_less told told_now faults faults_now new running (inl (grows, e, calm)) = less_by old new (record old { intake = fed; gathered = [] }) e all_written_less
   writes_less told told_now faults faults_now new running (inr (front, e, rose)) = stops_less old new WriteFault running (ap (λ session. session.stopped) e)
 
 -- a message was taken
@@ -112,7 +112,7 @@ module _ (told told_now : Option (List ℕ)) (old : Session) (fed : Intake) (lef
 pub reads_less : (told told_now : Option (List ℕ)) (faults faults_now : ℕ) (old new : Session) (fed : Intake) → MayRead old → HasNoMore old.intake fed
     → ((limit : ℕ) × (text : List ℕ) × (messages : List Message) × IsIntake limit text messages old.intake)
     → HasReadOnce told told_now faults faults_now (record old { intake = fed }) new → IsLess (before_of new) (before_of old)
-reads_less told told_now faults faults_now old new fed may none (limit, text, messages, is) (inl (said, intake, e, end, reads)) =
+reads_less told told_now faults faults_now old new fed may none (limit, text, messages, is) (inl (said, intake, e, calm, end, reads)) =
     let was = none.keeps limit text messages is in
     less_by old new (told_by said intake (record old { intake = fed })) e
     (came_less told told_now old fed none.left may.no_end may.within limit text messages was said intake (reads limit text messages was))
@@ -145,9 +145,9 @@ module _ {A B W : Type 0} (left left_now : Option (List ℕ)) (read_faults read_
   caused_by stopped e cause = subst (λ o. IsCaused o read_faults read_faults_now write_faults write_faults_now) (sym e) cause
 
   wrote_cause : (fed : Intake) → HasWritten written written_now write_faults write_faults_now (record old { intake = fed }) new
-      → IsCaused new.stopped read_faults read_faults_now write_faults write_faults_now
-  wrote_cause fed (inl (grows, e)) = caused_by None (ap (λ session. session.stopped) e ∙ running) tt
-  wrote_cause fed (inr (front, e, rose)) = caused_by (Some WriteFault) (ap (λ session. session.stopped) e) rose
+      → read_faults_now ≡ read_faults → IsCaused new.stopped read_faults read_faults_now write_faults write_faults_now
+  wrote_cause fed (inl (grows, e, calm)) no_reads = caused_by None (ap (λ session. session.stopped) e ∙ running) (no_reads, calm)
+  wrote_cause fed (inr (front, e, rose)) no_reads = caused_by (Some WriteFault) (ap (λ session. session.stopped) e) (rose, no_reads)
 
   told_stopped : (said : Came) (intake fed : Intake) → (told_by said intake (record old { intake = fed })).stopped ≡ None
   told_stopped came.Some intake fed = running
@@ -155,19 +155,22 @@ module _ {A B W : Type 0} (left left_now : Option (List ℕ)) (read_faults read_
   told_stopped came.End intake fed = running
 
   read_cause : (fed : Intake) → HasReadOnce left left_now read_faults read_faults_now (record old { intake = fed }) new
-      → IsCaused new.stopped read_faults read_faults_now write_faults write_faults_now
-  read_cause fed (inl (said, intake, e, end, reads)) = caused_by None (ap (λ session. session.stopped) e ∙ told_stopped said intake fed) tt
-  read_cause fed (inr (intake, e, rose, stays, nothing, kept)) = caused_by (Some ReadFault) (ap (λ session. session.stopped) e) rose
+      → write_faults_now ≡ write_faults → IsCaused new.stopped read_faults read_faults_now write_faults write_faults_now
+  read_cause fed (inl (said, intake, e, calm, end, reads)) no_writes = caused_by None (ap (λ session. session.stopped) e ∙ told_stopped said intake fed) (calm, no_writes)
+  read_cause fed (inr (intake, e, rose, stays, nothing, kept)) no_writes = caused_by (Some ReadFault) (ap (λ session. session.stopped) e) (rose, no_writes)
 
-  pub idle_cause : HasGoneIdle left left_now read_faults read_faults_now written written_now write_faults write_faults_now source source_now sink sink_now clock clock_now old new
+  -- a device that was not used has its count of faults
+  pub idle_cause : (source_now ≡ source → read_faults_now ≡ read_faults) → (sink_now ≡ sink → write_faults_now ≡ write_faults)
+      → HasGoneIdle left left_now read_faults read_faults_now written written_now write_faults write_faults_now source source_now sink sink_now clock clock_now old new
       → IsCaused new.stopped read_faults read_faults_now write_faults write_faults_now
-  idle_cause (inl wrote) = wrote_cause wrote.fed wrote.written
-  idle_cause (inr (inl took)) =
+  idle_cause reads writes (inl wrote) = wrote_cause wrote.fed wrote.written (reads wrote.source_is)
+  idle_cause reads writes (inr (inl took)) =
+      let calm : (read_faults_now ≡ read_faults) × (write_faults_now ≡ write_faults) = (reads took.source_is, writes took.sink_is) in
       elim took.taken.falls [
-        | inl stopped ↦ caused_by (Some NoMemory) stopped tt
-        | inr (same, lt) ↦ caused_by None (same ∙ running) tt
+        | inl stopped ↦ caused_by (Some NoMemory) stopped calm
+        | inr (same, lt) ↦ caused_by None (same ∙ running) calm
       ]
-  idle_cause (inr (inr read)) = read_cause read.fed read.reads
+  idle_cause reads writes (inr (inr read)) = read_cause read.fed read.reads (writes read.sink_is)
 
   told_over : (said : Came) (intake fed : Intake) → (told_by said intake (record old { intake = fed })).over ≡ old.over
   told_over came.Some intake fed = refl
@@ -175,11 +178,11 @@ module _ {A B W : Type 0} (left left_now : Option (List ℕ)) (read_faults read_
   told_over came.End intake fed = refl
 
   wrote_over : (fed : Intake) → HasWritten written written_now write_faults write_faults_now (record old { intake = fed }) new → new.over ≡ old.over
-  wrote_over fed (inl (grows, e)) = ap (λ session. session.over) e
+  wrote_over fed (inl (grows, e, calm)) = ap (λ session. session.over) e
   wrote_over fed (inr (front, e, rose)) = ap (λ session. session.over) e
 
   read_over : (fed : Intake) → HasReadOnce left left_now read_faults read_faults_now (record old { intake = fed }) new → new.over ≡ old.over
-  read_over fed (inl (said, intake, e, end, reads)) = ap (λ session. session.over) e ∙ told_over said intake fed
+  read_over fed (inl (said, intake, e, calm, end, reads)) = ap (λ session. session.over) e ∙ told_over said intake fed
   read_over fed (inr (intake, e, rose, stays, nothing, kept)) = ap (λ session. session.over) e
 
   pub idle_over : HasGoneIdle left left_now read_faults read_faults_now written written_now write_faults write_faults_now source source_now sink sink_now clock clock_now old new

@@ -158,7 +158,7 @@ module _ {D : Type 0} (view : D → StoreView) (s : Setting) (first now later : 
     pub has_read : (faults faults_now : ℕ) (new : Session) → HasReadOnce now.input later.input faults faults_now old new → IsGoing view s new.stopped new first later books
     has_read faults faults_now new h =
         elim h [
-          | inl (said, intake, e, none, reads) ↦
+          | inl (said, intake, e, calm, none, reads) ↦
               goes_as view s first later books (told_by said intake old) new e
               (goes_on view s first later books (told_by said intake old) (still_running said intake)
               (told said intake none (reads s.limit on.past.text (taken on.past) on.input.is_intake)))

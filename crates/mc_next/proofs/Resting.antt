@@ -1,5 +1,5 @@
 -- Turns of a client of which none moved anything: where a request counts each looked and found nothing.
-use Rattle.std.proofs.Common.{◌≡◌, ◌≢◌, ℕ, zero, suc, ◌<◌, ◌≤◌, inl, inr, Bool, true, false, List, [], ◌++◌, length, length-set, refl, sym, ◌∙◌, ap, subst, arith}
+use Rattle.std.proofs.Common.{◌≡◌, ◌≢◌, ℕ, zero, suc, ◌<◌, ◌≤◌, ◌⊎◌, inl, inr, Bool, true, false, List, [], ◌++◌, length, length-set, refl, sym, ◌∙◌, ap, subst, arith}
 use Rattle.std.specs.Prelude.{slice_get, slice_set}
 use Rattle.std.specs.declared.option.Option.TheVariants.{Some}
 use Rattle.std.proofs.lemmas.Bool.{cases_eq}
@@ -14,6 +14,7 @@ use Rattle.tm_client.specs.Clients.{come_of, IsClient}
 use Rattle.tm_client.specs.Turns.{HasNothing, HasLooked}
 use Rattle.tm_client.proofs.Elements.{same_element}
 use Rattle.tm_client.proofs.Fronts.{set_there}
+use Rattle.tm_asking.specs.Asking.{NoneCounts}
 use Rattle.tm_asking.specs.declared.turning.Turned.{Turned}
 use Rattle.tm_asking.specs.declared.turning.Turned.TheVariants.{Nothing, Pending, Arrived, Moved}
 use Rattle.tm_asking.specs.Turning.{told_of, told_with, TurnsAt, TurnsWhereCounting, TurnsBelow}
@@ -133,6 +134,17 @@ module _ {D Table Owner : Type 0} (theory : Theory StoreValue ShardOp ShardReply
           absurd (not_idle (openings n) books.number lane at.turned.becomes at.was at.now book books_new is_lane counts
           (subst (λ l. HasNothing theory at.was at.now l at.turned.becomes book books_new) (sym is) at.turned.tells))
 
+    answer_pending : (n : ℕ) (tables tables_new : List Table) (book books_new : StoreBooks D) (r : RestsBelow theory.client_view n books book) (lane : StoreLane D)
+        (there : slice_get book.lanes.items n ≡ Some lane) (answer : Turn) → told_of answer ≢ Moved → lane.counting ≢ 0
+        → TurnsAt theory kind n answer tables book tables_new books_new → told_of answer ≡ Pending
+    answer_pending n tables tables_new book books_new r lane there turn.Pending ne counts at = refl
+    answer_pending n tables tables_new book books_new r lane there (turn.Sent k) ne counts at = absurd (ne refl)
+    answer_pending n tables tables_new book books_new r lane there (turn.Got k) ne counts at = absurd (ne refl)
+    answer_pending n tables tables_new book books_new r lane there turn.Idle ne counts at =
+        let is = same_element book.lanes.items n at.turned.lane lane at.turned.turns.of_lane there in
+        absurd (not_idle (openings n) books.number lane at.turned.becomes at.was at.now book books_new (is_lane n tables tables_new book books_new r lane there) counts
+        (subst (λ l. HasNothing theory at.was at.now l at.turned.becomes book books_new) (sym is) at.turned.tells))
+
     turn_rests : (n : ℕ) (here : Turned) (tables tables_new : List Table) (book books_new : StoreBooks D) → RestsBelow theory.client_view n books book
         → TurnsWhereCounting theory kind n here tables book tables_new books_new → here ≢ Moved → RestsBelow theory.client_view (suc n) books books_new
     turn_rests n here tables tables_new book books_new r (lane, there, cases) ne =
@@ -148,6 +160,57 @@ module _ {D Table Owner : Type 0} (theory : Theory StoreValue ShardOp ShardReply
     rests_below (suc n) told tables tables_new books_new (mid, book, before, here, below, turns, e) ne =
         let both = neither_moved before here (λ m. ne (e ∙ m)) in
         turn_rests n here mid tables_new book books_new (rests_below n before tables mid book below both.0) turns both.1
+
+    -- what such turns say: that all are pending, or nothing where no request counts
+    at_pending : (n : ℕ) (here : Turned) (tables tables_new : List Table) (book books_new : StoreBooks D) → RestsBelow theory.client_view n books book
+        → TurnsWhereCounting theory kind n here tables book tables_new books_new → here ≢ Moved
+        → (here ≡ Pending) ⊎ ((here ≡ Nothing) × ((lane : StoreLane D) → slice_get books.lanes.items n ≡ Some lane → lane.counting ≡ 0))
+    at_pending n here tables tables_new book books_new r (lane, there, cases) ne =
+        let was = was_there n tables tables_new book books_new r lane there in
+        elim cases [
+          | inl (zero_counts, told, stays, same) ↦
+              inr (told, λ l e. ap (λ x. x.counting) (same_element books.lanes.items n lane l was e) ∙ zero_counts)
+          | inr (counts, (answer, told, at)) ↦ inl (told ∙ answer_pending n tables tables_new book books_new r lane there answer (λ e. ne (told ∙ e)) counts at)
+        ]
+
+    abbrev pub ToldSo : ℕ → Turned → Type 0
+    ToldSo n told =
+        (told ≡ Pending) ⊎ ((told ≡ Nothing) × ((t : ℕ) (lane : StoreLane D) → t < n → slice_get books.lanes.items t ≡ Some lane → lane.counting ≡ 0))
+
+    one_more_told : (n : ℕ) (before here : Turned) → ToldSo n before
+        → (here ≡ Pending) ⊎ ((here ≡ Nothing) × ((lane : StoreLane D) → slice_get books.lanes.items n ≡ Some lane → lane.counting ≡ 0)) → ToldSo (suc n) (told_with before here)
+    one_more_told n before here (inl e) (inl f) = inl (ap (λ t. told_with t here) e ∙ ap (told_with Pending) f)
+    one_more_told n before here (inl e) (inr (f, zero_counts)) = inl (ap (λ t. told_with t here) e ∙ ap (told_with Pending) f)
+    one_more_told n before here (inr (e, below)) (inl f) = inl (ap (λ t. told_with t here) e ∙ f)
+    one_more_told n before here (inr (e, below)) (inr (f, zero_counts)) =
+        inr (
+          ap (λ t. told_with t here) e ∙ f,
+          λ t lane lt there.
+              elim (cases_eq t n) [
+                | inl same ↦ zero_counts lane (subst (λ k. slice_get books.lanes.items k ≡ Some lane) same there)
+                | inr other ↦ below t lane (omega (arith, lt, other)) there
+              ],
+        )
+
+    told_below : (n : ℕ) (told : Turned) (tables tables_new : List Table) (books_new : StoreBooks D) → TurnsBelow theory kind n told tables books tables_new books_new
+        → told ≢ Moved → ToldSo n told
+    unfolding TurnsBelow
+    told_below zero told tables tables_new books_new (nothing, stays, same) ne = inr (nothing, λ t lane lt. absurd (omega (arith, lt)))
+    told_below (suc n) told tables tables_new books_new (mid, book, before, here, below, turns, e) ne =
+        let both = neither_moved before here (λ m. ne (e ∙ m)) in
+        subst (ToldSo (suc n)) (sym e)
+        (one_more_told n before here (told_below n before tables mid book below both.0)
+        (at_pending n here mid tables_new book books_new (rests_below n before tables mid book below both.0) turns both.1))
+
+    -- where a request counts, all are pending
+    pub turns_pend : (told : Turned) (tables tables_new : List Table) (books_new : StoreBooks D) → length tables ≡ length books.lanes.items
+        → TurnsBelow theory kind (length tables) told tables books tables_new books_new → told ≢ Moved → ¬ (NoneCounts books) → told ≡ Pending
+    turns_pend told tables tables_new books_new many turns ne counts =
+        elim (told_below (length tables) told tables tables_new books_new turns ne) [
+          | inl e ↦ e
+          | inr (e, zero_counts) ↦
+              absurd (counts (λ t lane there. let lt = slice_get_within books.lanes.items t lane there in zero_counts t lane (omega (arith, lt, many)) there))
+        ]
 
     -- the turns at all of its trustees
     pub turns_rest : (told : Turned) (tables tables_new : List Table) (books_new : StoreBooks D) → length tables ≡ length books.lanes.items

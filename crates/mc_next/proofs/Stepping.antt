@@ -1,16 +1,19 @@
 -- What a step says of itself, by what its parts did.
-use Rattle.std.proofs.Common.{◌≡◌, ◌⊎◌, inl, inr, Bool, true, false, ◌||◌, List, Some, None, refl, sym, ap, subst, ◌∙◌}
+use Rattle.std.proofs.Common.{◌≡◌, ◌⊎◌, inl, inr, Bool, true, false, ◌||◌, List, length, Some, None, refl, sym, ap, subst, ◌∙◌}
 use Rattle.tm_pair.specs.Theory.{Theory}
 use Rattle.tm_asking.specs.Asking.{NoneCounts}
+use Rattle.tm_asking.specs.declared.turning.Turned.{Turned}
+use Rattle.tm_asking.specs.Turning.{TurnsBelow}
 use Rattle.mc_model.specs.declared.reply.ShardReply.{ShardReply}
 use Rattle.mc_shard.specs.declared.op.ShardOp.{ShardOp}
 use Rattle.mc_route.specs.Places.{StoreValue}
 use Rattle.mc_next.specs.declared.ended.Ended.{Ended}
 use Rattle.mc_next.specs.declared.session.Session.{Session}
 use Rattle.mc_next.specs.declared.work.Work.{Work}
-use Rattle.mc_next.specs.Parts.{StoreTask, StoreView}
+use Rattle.mc_next.specs.Parts.{StoreTask, StoreView, store_kind}
 use Rattle.mc_next.specs.Clients.{StoreBooks}
-use Rattle.mc_next.specs.Steps.{shown_by, before_of, IsLess, AllPending, MayDoNothing, IsWaiting, HasTakenSome, HasTurnedSome, HasWorkedOn, HasAdvanced}
+use Rattle.mc_next.specs.Steps.{shown_by, before_of, IsLess, AllPending, MayDoNothing, IsWaiting, HasTakenSome, HasTurnedSome, HasWorkedOn, HasAdvanced, AsksOrTurns}
+use Rattle.mc_next.proofs.Clients.{keeps_none}
 use Rattle.mc_next.proofs.Looked.{client_still}
 
 -- a session whose command at work was taken out and put back
@@ -63,6 +66,16 @@ module _ {D Table Owner : Type 0} (theory : Theory StoreValue ShardOp ShardReply
       subst (λ before. IsLess (before_of new) before
       ⊎ ((before_of new ≡ before) × ((HasTakenSome books books_new × (tables_new ≡ tables)) ⊎ HasTurnedSome theory tables books tables_new books_new)))
       e h
+
+  -- turns of a client that stood so
+  pub turns_from : (mid old : StoreBooks D) (tables tables_new : List Table) (new : StoreBooks D) (told : Turned) → mid ≡ old
+      → TurnsBelow theory store_kind (length tables) told tables mid tables_new new → AsksOrTurns theory tables old tables_new new
+  turns_from mid old tables tables_new new told same turns =
+      inr (told, subst (λ b. TurnsBelow theory store_kind (length tables) told tables b tables_new new) same turns)
+
+  -- a client that was not touched called nothing
+  pub called_none : (tables : List Table) (books : StoreBooks D) → AsksOrTurns theory tables books tables books
+  called_none tables books = inl (refl, record { keeps = keeps_none books; client = λ openings is. is })
 
   -- of the command at work, before any turn
   pub advanced_by : (old new : Session) (tables : List Table) (books books_new : StoreBooks D) → HasWorkedOn old new books books_new

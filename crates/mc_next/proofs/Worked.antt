@@ -107,9 +107,9 @@ module _ {D : Type 0} (view : D → StoreView) (trusts : List Trust) (old : Sess
     pub finish_over : new.over ≡ old.over
     finish_over = elim (f.shows command same_frame) [ inl e ↦ ap (λ session. session.over) e | inr e ↦ ap (λ session. session.over) e ]
 
-    pub finish_cause : (reads reads_now writes writes_now : ℕ) → IsCaused new.stopped reads reads_now writes writes_now
-    finish_cause reads reads_now writes writes_now =
+    pub finish_cause : (reads writes : ℕ) → IsCaused new.stopped reads reads writes writes
+    finish_cause reads writes =
         elim (f.shows command same_frame) [
-          | inl e ↦ subst (λ o. IsCaused o reads reads_now writes writes_now) (sym (ap (λ session. session.stopped) e ∙ running)) tt
-          | inr e ↦ subst (λ o. IsCaused o reads reads_now writes writes_now) (sym (ap (λ session. session.stopped) e)) tt
+          | inl e ↦ subst (λ o. IsCaused o reads reads writes writes) (sym (ap (λ session. session.stopped) e ∙ running)) (refl, refl)
+          | inr e ↦ subst (λ o. IsCaused o reads reads writes writes) (sym (ap (λ session. session.stopped) e)) (refl, refl)
         ]

@@ -82,7 +82,7 @@ module _ {D : Type 0} (view : D → StoreView) (s : Setting) (first now later : 
   pub written : (faults faults_now : ℕ) (running : old.stopped ≡ None) (new : Session) → HasWritten now.output later.output faults faults_now old new → IsGoing view s new.stopped new first later books
   written faults faults_now running new h =
       elim h [
-        | inl (g, e) ↦ goes_as view s first later books (record old { gathered = [] }) new e (goes_on view s first later books (record old { gathered = [] }) running (all_written g))
+        | inl (g, e, calm) ↦ goes_as view s first later books (record old { gathered = [] }) new e (goes_on view s first later books (record old { gathered = [] }) running (all_written g))
         | inr (g, e, rose) ↦ goes_as view s first later books (record old { stopped = Some WriteFault }) new e (part_written g)
       ]
 

@@ -87,10 +87,10 @@ pub record HasNoMore (old new : Intake) : Type 0 where
   pub fed : unfed new ≡ []
   pub keeps : (limit : ℕ) (text : List ℕ) (messages : List Message) → IsIntake limit text messages old → IsIntake limit text messages new
 
--- what was gathered was written; or a front of it, and the sink's count of faults rose
+-- what was gathered was written, and the sink's count of faults stays; or a front of it, and the count rose
 abbrev pub HasWritten : Option (List ℕ) → Option (List ℕ) → ℕ → ℕ → Session → Session → Type 0
 HasWritten before now faults faults_now old new =
-    (Grows before now old.gathered × (new ≡ record old { gathered = [] }))
+    (Grows before now old.gathered × (new ≡ record old { gathered = [] }) × (faults_now ≡ faults))
     ⊎ (GrowsByFront before now old.gathered × (new ≡ record old { stopped = Some WriteFault }) × Rose faults faults_now)
 
 -- what a read brought stands in the session
@@ -99,10 +99,10 @@ told_by came.Some intake old = record old { intake = intake }
 told_by came.TooMuch intake old = record old { intake = intake; too_much = true }
 told_by came.End intake old = record old { intake = intake; at_end = true }
 
--- a read brought something; or it failed, and the source's count of faults rose
+-- a read brought something, and the source's count of faults stays; or it failed, and the count rose
 abbrev pub HasReadOnce : Option (List ℕ) → Option (List ℕ) → ℕ → ℕ → Session → Session → Type 0
 HasReadOnce before now faults faults_now old new =
-    ((said : Came) × (intake : Intake) × (new ≡ told_by said intake old) × (said ≡ came.End → unfed intake ≡ [])
+    ((said : Came) × (intake : Intake) × (new ≡ told_by said intake old) × (faults_now ≡ faults) × (said ≡ came.End → unfed intake ≡ [])
     × ((limit : ℕ) (text : List ℕ) (messages : List Message) → IsIntake limit text messages old.intake → HasRead limit text messages said before now intake))
     ⊎ ((intake : Intake) × (new ≡ record old { intake = intake; stopped = Some ReadFault }) × Rose faults faults_now × Stays before now × (unfed intake ≡ [])
     × ((limit : ℕ) (text : List ℕ) (messages : List Message) → IsIntake limit text messages old.intake → IsIntake limit text messages intake))

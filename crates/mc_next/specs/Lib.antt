@@ -5,3 +5,4 @@ pub mod Works
 pub mod Steps
 pub mod Sessions
 pub mod Deeds
+pub mod Numbers

@@ -1,5 +1,7 @@
 -- What is asked of the trustees for the commands of a stream.
 use Rattle.std.specs.Prelude.{ℕ, List, [], ◌∷◌, map}
+use Rattle.tm_seq.specs.Kind.{Kind}
+use Rattle.tm_seq.specs.Summing.{sum_kind}
 use Rattle.tm_seq.specs.declared.sum.Sum.{Sum}
 use Rattle.tm_seq.specs.declared.sum.Sum.TheVariants as sum
 use Rattle.tm_batch.specs.declared.message.Name.{Name}
@@ -8,12 +10,15 @@ use Rattle.tm_pair.specs.Views.{ClientView}
 use Rattle.mc_item.specs.declared.limits.TheConstants.{CLASSES}
 use Rattle.mc_model.specs.declared.message.Command.{Command}
 use Rattle.mc_model.specs.declared.reply.ShardReply.{ShardReply}
+use Rattle.mc_model.specs.declared.reply.ShardReply.TheVariants.{Missing}
 use Rattle.mc_shard.specs.declared.op.ShardOp.{ShardOp}
 use Rattle.mc_shard.specs.declared.op.NoTask.{NoTask}
+use Rattle.mc_shard.specs.Shard.{shard_kind}
 use Rattle.mc_route.specs.declared.desk.DeskTask.{DeskTask}
 use Rattle.mc_route.specs.declared.parts.ShardPart.{ShardPart}
 use Rattle.mc_route.specs.declared.planning.Ask.{Ask}
 use Rattle.mc_route.specs.declared.planning.Ask.TheVariants.{Nobody, Shards, Desk}
+use Rattle.mc_route.specs.Desks.{desk_kind}
 use Rattle.mc_route.specs.Places.{StoreValue, trustee_of}
 use Rattle.mc_route.specs.Plans.{ask_of}
 use Rattle.tm_asking.specs.Questions.{Question}
@@ -21,6 +26,10 @@ use Rattle.tm_asking.specs.Questions.{Question}
 -- what is launched on an object of the store: nothing on a class, and work of the desk
 abbrev pub StoreTask : Type 0
 StoreTask = Sum NoTask DeskTask
+
+-- the kind of the store's objects: classes, and the desk beside them
+abbrev pub store_kind : Kind StoreValue ShardOp ShardReply StoreTask
+store_kind = sum_kind shard_kind desk_kind Missing
 
 -- what a client's side at a trustee of the store stands for, and what a client asks of one
 abbrev pub StoreView : Type 0

@@ -1,9 +1,10 @@
 -- What a step did, by what a session shows and what its client and devices are.
 use Rattle.std.specs.Prelude.{◌≡◌, ◌≢◌, ℕ, ◌+◌, ◌<◌, ◌⊎◌, Bool, true, false, List, [], ◌∷◌, ◌++◌, length, slice_get, Option, Some, None}
 use Rattle.tm_base.specs.Causes.{Rose}
-use Rattle.tm_seq.specs.Kind.{Kind}
 use Rattle.tm_pair.specs.Calls.{IsPending}
 use Rattle.tm_pair.specs.Theory.{Theory}
+use Rattle.tm_client.specs.Clients.{IsClient}
+use Rattle.tm_asking.specs.declared.turning.Turned.{Turned}
 use Rattle.tm_asking.specs.declared.turning.Turned.TheVariants.{Moved}
 use Rattle.tm_asking.specs.Asking.{NoneCounts}
 use Rattle.tm_asking.specs.Turning.{TurnsBelow}
@@ -19,9 +20,9 @@ use Rattle.mc_next.specs.declared.ended.Ended.TheVariants.{ReadFault, WriteFault
 use Rattle.mc_next.specs.declared.piece.Piece.{Piece}
 use Rattle.mc_next.specs.declared.work.Work.{Work}
 use Rattle.mc_next.specs.declared.session.Session.{Session}
-use Rattle.mc_next.specs.Parts.{StoreTask, StoreView}
+use Rattle.mc_next.specs.Parts.{StoreTask, StoreView, store_kind}
 use Rattle.mc_next.specs.Clients.{StoreBooks, StoreLane}
-use Rattle.mc_next.specs.Works.{left_of, KeepsClient, KeepsWaits, IsFullFor}
+use Rattle.mc_next.specs.Works.{left_of, StoreState, KeepsClient, KeepsWaits, IsFullFor}
 
 -- ---- what a session shows
 
@@ -164,11 +165,16 @@ pub record HasTakenSome {D : Type 0} (books books_new : StoreBooks D) : Type 0 w
 abbrev pub HasWorkedOn : {D : Type 0} → Session → Session → StoreBooks D → StoreBooks D → Type 0
 HasWorkedOn old new books books_new = IsLess (before_of new) (before_of old) ⊎ ((before_of new ≡ before_of old) × HasTakenSome books books_new)
 
+-- calls of a client's own: its sides and trusts, and what is closed and fetched, stay, and it is a client still
+pub record HasCalled {D : Type 0} (view : D → StoreView) (books books_new : StoreBooks D) : Type 0 where
+  pub keeps : KeepsClient books books_new
+  pub client : (openings : ℕ → StoreState) → IsClient view openings books → IsClient view openings books_new
+
 module _ {D Table Owner : Type 0} (theory : Theory StoreValue ShardOp ShardReply StoreTask Table D Owner) where
   -- turns of the client, one at each trustee where a request counts, sent or got something
   abbrev pub HasTurnedSome : List Table → StoreBooks D → List Table → StoreBooks D → Type 0
   HasTurnedSome tables books tables_new books_new =
-      (kind : Kind StoreValue ShardOp ShardReply StoreTask) × TurnsBelow theory kind (length tables) Moved tables books tables_new books_new
+      TurnsBelow theory store_kind (length tables) Moved tables books tables_new books_new
 
   -- A step read, took, wrote, asked or answered something, and less is before the session; or as much is, and it took answers in, or sent or
   -- got something.
@@ -177,6 +183,13 @@ module _ {D Table Owner : Type 0} (theory : Theory StoreValue ShardOp ShardReply
       IsLess (before_of new) (before_of old)
       ⊎ ((before_of new ≡ before_of old)
       × ((HasTakenSome books books_new × (tables_new ≡ tables)) ⊎ HasTurnedSome tables books tables_new books_new))
+
+  -- The step made calls of the client's own, if any, and left the tables as they were; or it made turns of the client, one at each trustee
+  -- where a request counts, in order, and nothing else.
+  abbrev pub AsksOrTurns : List Table → StoreBooks D → List Table → StoreBooks D → Type 0
+  AsksOrTurns tables books tables_new books_new =
+      ((tables_new ≡ tables) × HasCalled theory.client_view books books_new)
+      ⊎ ((told : Turned) × TurnsBelow theory store_kind (length tables) told tables books tables_new books_new)
 
 -- ---- what a step leaves alone
 
@@ -217,10 +230,11 @@ pub record IsDraining {D A B W : Type 0} (view : D → StoreView) (old new : Ses
   pub sink_is : sink_new ≡ sink
   pub clock_is : clock_new ≡ clock
 
--- why a session stopped in a step, by the counts of faults of its source and its sink before and after: a fault is one where its count rose
+-- why a session stopped in a step, by the counts of faults of its source and its sink before and after: a fault is one where its count rose,
+-- and a count rose only where this is why
 abbrev pub IsCaused : Option Ended → ℕ → ℕ → ℕ → ℕ → Type 0
-IsCaused None reads reads_now writes writes_now = Unit {0}
-IsCaused (Some ReadFault) reads reads_now writes writes_now = Rose reads reads_now
-IsCaused (Some WriteFault) reads reads_now writes writes_now = Rose writes writes_now
-IsCaused (Some NoMemory) reads reads_now writes writes_now = Unit {0}
+IsCaused None reads reads_now writes writes_now = (reads_now ≡ reads) × (writes_now ≡ writes)
+IsCaused (Some ReadFault) reads reads_now writes writes_now = Rose reads reads_now × (writes_now ≡ writes)
+IsCaused (Some WriteFault) reads reads_now writes writes_now = Rose writes writes_now × (reads_now ≡ reads)
+IsCaused (Some NoMemory) reads reads_now writes writes_now = (reads_now ≡ reads) × (writes_now ≡ writes)
 IsCaused (Some _) reads reads_now writes writes_now = ⊥

@@ -3,7 +3,10 @@ ghost use Rattle.std.specs.Prelude.{◌≡◌, ◌≢◌, ◌≤◌, ◌⊎◌, 
 ghost use Rattle.tm_base.specs.Causes.{HasCause};
 ghost use Rattle.tm_asking.specs.Asking.{NoneCounts, sides_of};
 ghost use Rattle.tm_client.specs.Clients.{IsClient};
-ghost use Rattle.tm_asking.specs.Turning.{IsAtTables};
+ghost use Rattle.tm_asking.specs.declared.turning.Turned.{Turned};
+ghost use Rattle.tm_asking.specs.declared.turning.Turned.TheVariants as looked;
+ghost use Rattle.tm_asking.specs.Turning.{IsAtTables, TurnsBelow};
+ghost use Rattle.mc_next.specs.Parts.{store_kind};
 ghost use Rattle.mc_model.specs.declared.message.Message.{Message};
 ghost use Rattle.mc_intake.specs.Intake.{unfed, IsIntake};
 ghost use Rattle.mc_next.specs.Clients.{AreStoreTrusts};
@@ -13,7 +16,7 @@ ghost use Rattle.mc_next.specs.Works.{KeepsClient, StoreState};
 ghost use Rattle.mc_next.specs.Runs.{Setting, SessionView};
 ghost use Rattle.mc_next.specs.Sessions.{IsOn, IsGoing, IsNotOver, IsNotDone, HasGivenUp, seen, IsOf};
 ghost use Rattle.mc_next.specs.Deeds.{told_by, HasWritten, HasReadOnce, HasGoneIdle, RestsAtWork};
-ghost use Rattle.mc_next.specs.Steps.{shown_by, before_of, IsWaiting, AllPending, NextIsFull, MayDoNothing, HasTakenSome, HasWorkedOn, HasAdvanced, KeepsMarks, MayRead, AsksNothing, IsDraining, IsCaused};
+ghost use Rattle.mc_next.specs.Steps.{shown_by, before_of, IsWaiting, AllPending, NextIsFull, MayDoNothing, HasTakenSome, HasWorkedOn, HasAdvanced, KeepsMarks, MayRead, AsksNothing, AsksOrTurns, IsDraining, IsCaused};
 
 use crate::ended::Ended;
 use crate::session::{FULL, Session};
@@ -143,7 +146,7 @@ impl Session {
             → IsGoing P.theory.client_view s self.new.stopped self.new first (seen P.theory.client_view client.new.books left readings written) client.new.books }
         ensures moved { (result ≡ true) → HasWorkedOn (record self.old { work = Some work }) self.new client.old.books client.new.books }
         ensures rests { (result ≡ false) → (client.new ≡ client.old) × RestsAtWork work self.old self.new client.new.books }
-        ensures cause { (reads reads_now writes writes_now : ℕ) → IsCaused self.new.stopped reads reads_now writes writes_now }
+        ensures cause { (reads writes : ℕ) → IsCaused self.new.stopped reads reads writes writes }
         ensures over { self.new.over ≡ self.old.over }
         ensures keeps { KeepsClient client.old.books client.new.books }
         ensures client { (openings : ℕ → StoreState) → IsClient P.theory.client_view openings client.old.books → IsClient P.theory.client_view openings client.new.books }
@@ -175,8 +178,10 @@ impl Session {
         ensures waits { (result ≡ false) → (sink.new ≡ sink.old) × (self.new ≡ self.old) × AllPending P.theory.client_view client.old.books client.new.books
             × MayDoNothing self.new client.new.books × (¬ (NoneCounts client.new.books)) }
         ensures writes { (sink.new ≡ sink.old) ⊎ (self.old.gathered ≢ []) }
-        ensures cause { (reads reads_now : ℕ) → IsCaused self.new.stopped reads reads_now (B.faults sink.old) (B.faults sink.new) }
+        ensures cause { (reads : ℕ) → IsCaused self.new.stopped reads reads (B.faults sink.old) (B.faults sink.new) }
         ensures over { self.new.over ≡ self.old.over }
+        ensures looks { (result ≡ false) → TurnsBelow P.theory store_kind (length tables.old) looked.Pending tables.old client.old.books tables.new client.new.books }
+        ensures turns { (told : Turned) × TurnsBelow P.theory store_kind (length tables.old) told tables.old client.old.books tables.new client.new.books }
         ensures keeps { KeepsMarks client.old.books client.new.books }
         ensures goes { (s : Setting) (first : SessionView) (left readings : Option (List ℕ))
             → IsOn P.theory.client_view s self.old first (seen P.theory.client_view client.old.books left readings (B.written sink.old)) client.old.books
@@ -225,6 +230,8 @@ impl Session {
         ensures waits { (result ≡ false) → (self.new ≡ self.old) × AllPending P.theory.client_view client.old.books client.new.books × (¬ (NoneCounts client.new.books)) }
         ensures session { self.new ≡ record self.old { work = self.new.work } }
         ensures lanes { AsksNothing P.theory.client_view client.old.books client.new.books }
+        ensures looks { (result ≡ false) → TurnsBelow P.theory store_kind (length tables.old) looked.Pending tables.old client.old.books tables.new client.new.books }
+        ensures turns { AsksOrTurns P.theory tables.old client.old.books tables.new client.new.books }
         ensures keeps { KeepsMarks client.old.books client.new.books }
         ensures given { (s : Setting) (first : SessionView) (now : SessionView) → HasGivenUp P.theory.client_view s self.old first now client.old.books
             → HasGivenUp P.theory.client_view s self.new first now client.new.books }
@@ -254,8 +261,10 @@ impl Session {
         ensures waits { (result ≡ false) → (sink.new ≡ sink.old) × (shown_by self.new ≡ shown_by (record self.old { work = Some work }))
             × AllPending P.theory.client_view client.old.books client.new.books × MayDoNothing self.new client.new.books × (¬ (NoneCounts client.new.books)) }
         ensures writes { (sink.new ≡ sink.old) ⊎ (self.old.gathered ≢ []) }
-        ensures cause { (reads reads_now : ℕ) → IsCaused self.new.stopped reads reads_now (B.faults sink.old) (B.faults sink.new) }
+        ensures cause { (reads : ℕ) → IsCaused self.new.stopped reads reads (B.faults sink.old) (B.faults sink.new) }
         ensures over { self.new.over ≡ self.old.over }
+        ensures looks { (result ≡ false) → TurnsBelow P.theory store_kind (length tables.old) looked.Pending tables.old client.old.books tables.new client.new.books }
+        ensures turns { AsksOrTurns P.theory tables.old client.old.books tables.new client.new.books }
         ensures keeps { KeepsMarks client.old.books client.new.books }
         ensures goes { (s : Setting) (first : SessionView) (left readings : Option (List ℕ)) → IsOf s trusts.now (length tables.old)
             → IsOn P.theory.client_view s (record self.old { work = Some work }) first (seen P.theory.client_view client.old.books left readings (B.written sink.old)) client.old.books
@@ -294,6 +303,8 @@ impl Session {
         ensures drains { (why : Ended) → self.old.stopped ≡ Some why
             → IsDraining P.theory.client_view self.old self.new client.old.books client.new.books source.old source.new sink.old sink.new clock.old clock.new }
         ensures over { self.new.over ≡ self.old.over }
+        ensures looks { (result ≡ false) → TurnsBelow P.theory store_kind (length tables.old) looked.Pending tables.old client.old.books tables.new client.new.books }
+        ensures turns { AsksOrTurns P.theory tables.old client.old.books tables.new client.new.books }
         ensures keeps { KeepsMarks client.old.books client.new.books }
         ensures home { (openings : ℕ → StoreState) → IsAtTables P.theory openings tables.old client.old.books → IsAtTables P.theory openings tables.new client.new.books }
     {

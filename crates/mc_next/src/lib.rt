@@ -1,6 +1,7 @@
 //! A session over the trustees: what it asks for the messages of a stream, and what it has done when it ends.
 #![tactic(auto)]
 
+mod ahead;
 mod ended;
 mod ending;
 mod going;
@@ -12,6 +13,7 @@ mod todo;
 mod work;
 mod writing;
 
+pub use ahead::Ahead;
 pub use ended::{Ended, Stepped};
 pub use laws::sessions_begin;
 pub use session::Session;

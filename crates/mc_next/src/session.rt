@@ -1,13 +1,15 @@
 //! A session: one connection, answered step by step.
 ghost use Rattle.std.specs.Prelude.{◌≡◌, ◌≢◌, ◌↔◌, ◌⊎◌, ℕ, [], length, true, false, IfOk, None, Some};
 ghost use Rattle.tm_asking.specs.Asking.{NoneCounts};
-ghost use Rattle.tm_asking.specs.Turning.{IsAtTables};
+ghost use Rattle.tm_asking.specs.declared.turning.Turned.TheVariants as looked;
+ghost use Rattle.tm_asking.specs.Turning.{IsAtTables, TurnsBelow};
+ghost use Rattle.mc_next.specs.Parts.{store_kind};
 ghost use Rattle.mc_next.specs.declared.ended.Ended.{Ended};
 ghost use Rattle.mc_next.specs.Clients.{AreStoreTrusts};
 ghost use Rattle.mc_next.specs.Works.{StoreState};
 ghost use Rattle.mc_next.specs.Runs.{Setting, SessionView};
 ghost use Rattle.mc_next.specs.Sessions.{IsFresh, IsOf, IsSession, IsOverSo, IsNotDone, seen};
-ghost use Rattle.mc_next.specs.Steps.{IsWaiting, HasAdvanced, KeepsMarks, MayRead, IsDraining, IsCaused};
+ghost use Rattle.mc_next.specs.Steps.{IsWaiting, HasAdvanced, AsksOrTurns, KeepsMarks, MayRead, IsDraining, IsCaused};
 
 use crate::ended::{Ended, Stepped};
 use crate::work::Work;
@@ -120,6 +122,10 @@ impl Session {
         ensures cause { self.old.stopped ≡ None → IsCaused self.new.stopped (A.faults source.old) (A.faults source.new) (B.faults sink.old) (B.faults sink.new) }
         ensures drains { (why : Ended) → self.old.stopped ≡ Some why
             → IsDraining P.theory.client_view self.old self.new client.old.books client.new.books source.old source.new sink.old sink.new clock.old clock.new }
+        // A step that did nothing looked for answers at each trustee where a request counts.
+        ensures looks { result ≡ Stepped.Waiting → TurnsBelow P.theory store_kind (length tables.old) looked.Pending tables.old client.old.books tables.new client.new.books }
+        // Client and tables tell a step as the client's own calls or as its turns.
+        ensures turns { AsksOrTurns P.theory tables.old client.old.books tables.new client.new.books }
         ensures keeps { KeepsMarks client.old.books client.new.books }
         ensures trusts { AreStoreTrusts (length tables.new) client.new.books trusts.now }
         // What stopped it first stays, want of memory too.

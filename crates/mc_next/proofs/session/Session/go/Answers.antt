@@ -3,7 +3,7 @@ use Rattle.mc_next.specs.Sessions.{seen, IsOn, IsGoing, IsNotDone}
 use Rattle.mc_next.specs.Steps.{before_of, IsLess}
 use Rattle.mc_next.proofs.Advancing.{idle_less}
 use Rattle.mc_next.proofs.Endings.{why_stopped, not_stopped, given_now, drained_going}
-use Rattle.mc_next.proofs.Stepping.{drained_waits, worked_waits}
+use Rattle.mc_next.proofs.Stepping.{called_none, drained_waits, worked_waits}
 use Rattle.mc_next.proofs.Turned.{seen_given}
 use Rattle.mc_next.proofs.session.Session.go.Goals as goal
 
@@ -47,6 +47,9 @@ returns-in_default-clause-moved g c = λ _.
     inl (subst (λ w. IsLess (before_of new) (before_of (record old { work = w }))) idle
     (idle_less _ _ _ _ _ _ _ _ c.args.source.now c.take_or_read.new.source c.args.sink.now c.take_or_read.new.sink c.args.clock.now c.take_or_read.new.clock
     (record old { work = c.take.new.self }) new (not_stopped old.stopped (sym c.is_some.ensures ∙ c.if-is_some.false)) c.take_or_read.ensures.did))
+
+pub returns-in_default-clause-turns : goal.returns-in_default-clause-turns
+returns-in_default-clause-turns g c = called_none g.P.PairTable.theory c.args.tables.now c.args.client.now.books
 
 pub work_on-requires-clause-on : goal.work_on-requires-clause-on
 work_on-requires-clause-on g c =

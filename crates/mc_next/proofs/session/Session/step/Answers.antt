@@ -4,6 +4,7 @@ use Rattle.mc_next.specs.Clients.{AreStoreTrusts}
 use Rattle.mc_next.specs.Sessions.{Holds, IsNotDone, IsOverSo, seen}
 use Rattle.mc_next.proofs.Endings.{not_over, none_over, stepped}
 use Rattle.mc_next.proofs.Keeping.{trusts_by_marks}
+use Rattle.mc_next.proofs.Stepping.{called_none}
 use Rattle.mc_next.proofs.session.Session.step.Goals as goal
 
 pub returns-clause-session : goal.returns-clause-session
@@ -41,3 +42,6 @@ returns-clause-trusts g c =
     let new = c.go-moved.new.client.books in
     subst (λ n. AreStoreTrusts n new c.args.trusts.now) (sym c.go-moved.auto.tables)
     (trusts_by_marks (length c.args.tables.now) c.args.client.now.books new c.args.trusts.now c.requires.trusts c.go-moved.ensures.keeps)
+
+pub returns-in-Some-clause-turns : goal.returns-in-Some-clause-turns
+returns-in-Some-clause-turns g c = called_none g.P.PairTable.theory c.args.tables.now c.args.client.now.books

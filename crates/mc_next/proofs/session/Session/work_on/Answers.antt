@@ -1,9 +1,12 @@
-use Rattle.std.proofs.Common.{Some, refl, ap, subst, ◌∙◌}
+use Rattle.std.proofs.Common.{Some, length, refl, ap, subst, ◌∙◌, inl}
+use Rattle.tm_asking.specs.declared.turning.Turned.TheVariants.{Pending}
+use Rattle.tm_asking.specs.Turning.{TurnsBelow}
+use Rattle.mc_next.specs.Parts.{store_kind}
 use Rattle.mc_next.specs.Sessions.{seen, IsGoing}
 use Rattle.mc_next.specs.Steps.{before_of, HasAdvanced}
 use Rattle.mc_next.proofs.Advancing.{same_before}
 use Rattle.mc_next.proofs.Clients.{home_stays}
-use Rattle.mc_next.proofs.Stepping.{advanced_from}
+use Rattle.mc_next.proofs.Stepping.{advanced_from, turns_from}
 use Rattle.mc_next.proofs.session.Session.work_on.Goals as goal
 
 pub returns-then-ask_and_take-clause-home : goal.returns-then-ask_and_take-clause-home
@@ -11,10 +14,26 @@ returns-then-ask_and_take-clause-home g c = λ openings home.
     home_stays g.P.PairTable.theory openings c.args.tables.now c.args.client.now.books c.ask_and_take.new.client.books home c.ask_and_take.ensures.keeps
     (c.ask_and_take.ensures.client openings home.client)
 
+pub returns-then-ask_and_take-clause-turns : goal.returns-then-ask_and_take-clause-turns
+returns-then-ask_and_take-clause-turns g c = inl (refl, record { keeps = c.ask_and_take.ensures.keeps; client = c.ask_and_take.ensures.client })
+
 pub turn_or_write-requires-clause-busy : goal.turn_or_write-requires-clause-busy
 turn_or_write-requires-clause-busy g c =
     let (same, rests) = c.if-ask_and_take.ensures.rests refl in
     (rests.becomes, ap (λ session. session.work) rests.session)
+
+pub returns-clause-turns : goal.returns-clause-turns
+returns-clause-turns g c =
+    let (same, rests) = c.if-ask_and_take.ensures.rests refl in
+    let (told, turns) = c.turn_or_write.ensures.turns in
+    turns_from g.P.PairTable.theory c.ask_and_take.new.client.books c.args.client.now.books c.args.tables.now c.turn_or_write.new.tables c.turn_or_write.new.client.books told
+    (ap (λ client. client.books) same) turns
+
+pub returns-clause-looks : goal.returns-clause-looks
+returns-clause-looks g c = λ e.
+    let (same, rests) = c.if-ask_and_take.ensures.rests refl in
+    subst (λ b. TurnsBelow g.P.PairTable.theory store_kind (length c.args.tables.now) Pending c.args.tables.now b c.turn_or_write.new.tables c.turn_or_write.new.client.books)
+    (ap (λ client. client.books) same) (c.turn_or_write.ensures.looks e)
 
 pub returns-clause-moved : goal.returns-clause-moved
 returns-clause-moved g c = λ e.
