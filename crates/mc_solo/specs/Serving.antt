@@ -1,11 +1,13 @@
 -- One client of a runtime over the store is served a session, on one thread.
-use Rattle.std.specs.Prelude.{◌≡◌, ◌≢◌, ℕ, List, length, slice_get, Option, Some}
+use Rattle.std.specs.Prelude.{◌≡◌, ◌≢◌, ℕ, ◌+◌, ◌-◌, ◌^◌, List, length, slice_get, Option, Some}
+use Rattle.tm_batch.specs.declared.config.Config.{Config}
 use Rattle.tm_pair.specs.Plain.{plain_theory}
 use Rattle.tm_pair.specs.declared.plain.PlainClient.{PlainClient}
 use Rattle.tm_client.specs.declared.trust.Trust.{Trust}
 use Rattle.tm_asking.specs.Asking.{NoneCounts, AllOpen}
 use Rattle.tm_turns.specs.Whole.{OneClient}
 use Rattle.tm_turns.specs.declared.turns.Turns.{Turns}
+use Rattle.mc_item.specs.declared.limits.TheConstants.{CLASSES}
 use Rattle.mc_model.specs.declared.reply.ShardReply.{ShardReply}
 use Rattle.mc_shard.specs.declared.op.ShardOp.{ShardOp}
 use Rattle.mc_route.specs.Places.{StoreValue}
@@ -25,6 +27,11 @@ StoreClient = OneClient StoreValue ℕ ShardOp ShardReply StoreTask
 -- what a client's side at a table stands for
 abbrev pub store_view : PlainClient StoreValue ShardOp ShardReply StoreTask → StoreView
 store_view = (plain_theory store_kind).client_view
+
+-- The config of a runtime over the store: as many objects as classes at most at one trustee, a trust of each object, and ids and tickets up to
+-- the last u64.
+abbrev pub store_config : ℕ → ℕ → Config
+store_config clients trustees = record { clients = clients; trustees = trustees; objects = CLASSES; trusts = CLASSES + 1; last_id = 2 ^ 64 - 1 }
 
 -- A session may begin with client `place`: it holds these trusts of the store, no request of it counts, and it was closed for no trustee.
 pub record MayServe (place : ℕ) (trusts : List Trust) (turns : StoreTurns) : Type 0 where

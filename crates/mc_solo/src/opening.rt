@@ -3,9 +3,11 @@ ghost use Rattle.std.specs.Prelude.{◌≡◌, ℕ, ◌≤◌, List, length, map
 ghost use Rattle.tm_batch.specs.declared.limits.TheConstants.{MOST_CLIENTS, FEWEST_TRUSTEES, MOST_TRUSTEES};
 ghost use Rattle.tm_client.specs.declared.trust.Trust.{Trust};
 ghost use Rattle.tm_turns.specs.Whole.{AreTurns};
+ghost use Rattle.tm_turns.specs.Making.{HasBuilt};
 ghost use Rattle.mc_item.specs.declared.limits.TheConstants.{MOST_ITEMS};
 ghost use Rattle.mc_next.specs.Parts.{store_kind};
-ghost use Rattle.mc_solo.specs.Serving.{MayServe};
+ghost use Rattle.mc_route.specs.Places.{store_first};
+ghost use Rattle.mc_solo.specs.Serving.{MayServe, store_config};
 
 use mc_item::CLASSES;
 use mc_route::{Store, store_first};
@@ -31,9 +33,10 @@ pub fn open_store(
     requires most { trustees ≤ MOST_TRUSTEES }
     requires some { 1 ≤ bound }
     requires bound { bound ≤ MOST_ITEMS }
+    // All is as a build makes it of the store's objects: new clients, empty classes of that bound, and the desk.
+    ensures built { IfOk result (λ r. HasBuilt store_kind (store_config clients trustees) (store_first clients trustees bound) r.0 (map (λ l. l.items) r.1.items)) }
     ensures are { IfOk result (λ r. AreTurns store_kind r.0) }
-    ensures clients { IfOk result (λ r. (length r.0.clients.items ≡ clients) × (length r.1.items ≡ clients)) }
-    ensures trustees { IfOk result (λ r. length r.0.tables.items ≡ trustees) }
+    ensures clients { IfOk result (λ r. length r.1.items ≡ clients) }
     ensures may { IfOk result (λ r. (c : ℕ) (trusts : List Trust) → slice_get (map (λ l. l.items) r.1.items) c ≡ Some trusts → MayServe c trusts r.0) }
 {
     let config = Config {
