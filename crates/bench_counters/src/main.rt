@@ -24,6 +24,7 @@ use self::serving::{Home, serve};
 use self::work::{Work, work_of};
 use std::alloc::{AllocError, Global};
 use std::process::ExitCode;
+use std::rt::Clock;
 use std::sync::Wait;
 use std::thread::{self, Threads};
 use std::time::Instant;
@@ -39,7 +40,7 @@ fn count_at<R: Wait>(rt: &R, seat: Seat, work: Work) -> Option<u64>
 
 /// The trustee on a thread of its own, and each client on one. How many requests the trustee ran, and the last reply to
 /// each client, where all came in order.
-fn run<R: Threads + Wait + Sync>(
+fn run<R: Threads + Wait + Clock + Sync>(
     rt: &R,
     opened: Opened,
     work: Work,
