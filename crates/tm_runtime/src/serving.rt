@@ -1,5 +1,9 @@
 //! A trustee's thread.
+ghost use Rattle.std.specs.Prelude.{◌≡◌, Some, slice_get};
+ghost use Rattle.tm_model.specs.Lists.{IsPrefix};
+ghost use Rattle.tm_trustee.specs.Serving.{ups_of};
 ghost use Rattle.tm_trustee.specs.Tables.{IsReady};
+ghost use Rattle.tm_trustee.specs.Turn.{HasEnded};
 ghost use Rattle.tm_runtime.specs.Serving.{HasServed};
 
 use std::rt::Clock;
@@ -25,6 +29,11 @@ pub fn serve_loop<S: FitsBatches, P: PairTable<S>, G: Gate, R: Wait + Clock>(
     requires ready { IsReady P.theory S.kind tables.old trustee.old }
     ensures served { HasServed P.theory S.kind tables.old trustee.old tables.new trustee.new }
     ensures ready { IsReady P.theory S.kind tables.new trustee.new }
+    // Its log only grows.
+    ensures grows { IsPrefix (P.theory.trustee_view trustee.old.side).log (P.theory.trustee_view trustee.new.side).log }
+    // By its log all places have said `Bye`, and each greater trustee has answered its own.
+    ensures ended { (table : P) → slice_get tables.new trustee.new.number ≡ Some table
+        → HasEnded (P.theory.opening table) (P.theory.trustee_view trustee.new.side) (ups_of P.theory trustee.new) }
 {
     let mut waiting = Waiting::of_trustee();
     for _ in rt.forever() {
