@@ -5,4 +5,4 @@
 
 mod laws;
 
-pub use laws::objects_run;
+pub use laws::{objects_run, one_place_runs};
