@@ -22,7 +22,7 @@ none_asked view = record { place = refl; sent = sym (append-nil view.sent); grow
 
 module _ {D : Type 0} (view : D → StoreView) (s : Setting) (session : Session) (fresh : IsFresh s.limit session) (books : StoreBooks D)
     (left readings written : Option (List ℕ)) (asks : (replies : List ShardReply) → IsAsking view Missing (sides_of view books) [] replies books) (none : NoneCounts books) where
-  is_on : IsOn view s session (seen view books left readings written) (seen view books left readings written) books
+  is_on : IsOn view s [] session (seen view books left readings written) (seen view books left readings written) books
   is_on = record {
     past = record { text = []; answered = []; begun = []; readings = []; replies = []; written = [] };
     input = record {
@@ -36,14 +36,14 @@ module _ {D : Type 0} (view : D → StoreView) (s : Setting) (session : Session)
     };
     clock = record { is_read = grows_none readings; once = refl; latest_is = fresh.moment };
     output = record { each = tt; is_written = grows_none written; gathered_is = fresh.gathered };
-    client = subst (λ work. HasAskedOn view s (record { text = []; answered = []; begun = []; readings = []; replies = []; written = [] }) session.moment work (sides_of view books) books) (sym fresh.work)
-        (record { was = sides_of view books; answered = λ t below. none_asked (sides_of view books t); asked = []; asks = asks; at_work = (refl, refl, none) });
+    client = subst (λ work. HasAskedOn view s [] (record { text = []; answered = []; begun = []; readings = []; replies = []; written = [] }) session.moment work (sides_of view books) books) (sym fresh.work)
+        (record { was = sides_of view books; answered = λ t below. none_asked (sides_of view books t); in_turn = tt; was_is = refl; asked = []; asks = asks; at_work = (refl, refl, none) });
   }
 
   not_done : IsNotDone session.stopped session books
   not_done = subst (λ stopped. IsNotDone stopped session books) (sym fresh.stopped)
       (λ idle none_gathered. (fresh.quit, fresh.at_end, λ much. absurd (false≢true (sym fresh.too_much ∙ much))))
 
-  pub begins : IsSession view s session (seen view books left readings written) (seen view books left readings written) books
-  begins = subst (λ over. Holds view s over session (seen view books left readings written) (seen view books left readings written) books) (sym fresh.over)
-      (subst (λ stopped. IsGoing view s stopped session (seen view books left readings written) (seen view books left readings written) books) (sym fresh.stopped) is_on, not_done)
+  pub begins : IsSession view s [] session (seen view books left readings written) (seen view books left readings written) books
+  begins = subst (λ over. Holds view s [] over session (seen view books left readings written) (seen view books left readings written) books) (sym fresh.over)
+      (subst (λ stopped. IsGoing view s [] stopped session (seen view books left readings written) (seen view books left readings written) books) (sym fresh.stopped) is_on, not_done)

@@ -80,7 +80,7 @@ module _ (limit : ℕ) (text : List ℕ) (messages : List Message) (intake intak
         quit_is = h.quit_is;
       }
 
-module _ {D : Type 0} (view : D → StoreView) (s : Setting) (first now later : SessionView) (books : StoreBooks D) (old : Session) (on : IsOn view s old first now books)
+module _ {D : Type 0} (view : D → StoreView) (s : Setting) (marks : List (ℕ → StoreView)) (first now later : SessionView) (books : StoreBooks D) (old : Session) (on : IsOn view s marks old first now books)
     (same_clock : later.clock ≡ now.clock) (same_output : later.output ≡ now.output) (running : old.stopped ≡ None)
     (not_ended : old.at_end ≡ false) (not_much : old.too_much ≡ false) where
   flags : (text : List ℕ) (messages : List Message) (intake : Intake) (told : Option (List ℕ)) → HasCome s.limit text messages intake old.quit false false first.input told
@@ -102,20 +102,20 @@ module _ {D : Type 0} (view : D → StoreView) (s : Setting) (first now later : 
 
   module _ (text : List ℕ) (new : Session) (gathered : new.gathered ≡ old.gathered) (moment : new.moment ≡ old.moment) (work : new.work ≡ old.work)
       (come : HasCome s.limit text (taken on.past) new.intake new.quit new.at_end new.too_much first.input later.input) where
-    with_text : IsOn view s new first later books
+    with_text : IsOn view s marks new first later books
     with_text = record {
       past = record on.past { text = text };
       input = come;
       clock = subst (λ m. HasTicked on.past.readings (taken on.past) m first.clock later.clock) (sym moment) clock_still;
       output = record { each = on.output.each; is_written = is_written; gathered_is = ap (λ g. on.past.written ++ g) gathered ∙ on.output.gathered_is };
       client =
-          subst (λ m. HasAskedOn view s (record on.past { text = text }) m new.work first.sides books) (sym moment)
-          (subst (λ w. HasAskedOn view s (record on.past { text = text }) old.moment w first.sides books) (sym work)
-          (record { was = on.client.was; answered = on.client.answered; asked = on.client.asked; asks = on.client.asks; at_work = on.client.at_work }));
+          subst (λ m. HasAskedOn view s marks (record on.past { text = text }) m new.work first.sides books) (sym moment)
+          (subst (λ w. HasAskedOn view s marks (record on.past { text = text }) old.moment w first.sides books) (sym work)
+          (record { was = on.client.was; answered = on.client.answered; in_turn = on.client.in_turn; was_is = on.client.was_is; asked = on.client.asked; asks = on.client.asks; at_work = on.client.at_work }));
     }
 
   told : (said : Came) (intake : Intake) → (said ≡ came.End → unfed intake ≡ []) → HasRead s.limit on.past.text (taken on.past) said now.input later.input intake
-      → IsOn view s (told_by said intake old) first later books
+      → IsOn view s marks (told_by said intake old) first later books
   told came.Some intake none r =
       with_text (on.past.text ++ r.bytes) (record old { intake = intake }) refl refl refl
       (flags (on.past.text ++ r.bytes) (taken on.past) intake later.input (read_some s.limit on.past.text (taken on.past) old.intake intake old.quit first.input now.input later.input input r))
@@ -136,7 +136,7 @@ module _ {D : Type 0} (view : D → StoreView) (s : Setting) (first now later : 
   -- all that came is answered and written before a read that fails
   module _ (idle : old.work ≡ None) (none_gathered : old.gathered ≡ []) (no_quit : old.quit ≡ false) where
     failed : (intake : Intake) → Stays now.input later.input → unfed intake ≡ [] → IsIntake s.limit on.past.text (taken on.past) intake
-        → HasStoppedFor view s ReadFault (record old { intake = intake; stopped = Some ReadFault }) first later books
+        → HasStoppedFor view s marks ReadFault (record old { intake = intake; stopped = Some ReadFault }) first later books
     failed intake stays none is = (
       with_text on.past.text (record old { intake = intake; stopped = Some ReadFault }) refl refl refl
           (flags on.past.text (taken on.past) intake later.input (record {
@@ -155,14 +155,14 @@ module _ {D : Type 0} (view : D → StoreView) (s : Setting) (first now later : 
       not_much,
     )
 
-    pub has_read : (faults faults_now : ℕ) (new : Session) → HasReadOnce now.input later.input faults faults_now old new → IsGoing view s new.stopped new first later books
+    pub has_read : (faults faults_now : ℕ) (new : Session) → HasReadOnce now.input later.input faults faults_now old new → IsGoing view s marks new.stopped new first later books
     has_read faults faults_now new h =
         elim h [
           | inl (said, intake, e, calm, none, reads) ↦
-              goes_as view s first later books (told_by said intake old) new e
-              (goes_on view s first later books (told_by said intake old) (still_running said intake)
+              goes_as view s marks first later books (told_by said intake old) new e
+              (goes_on view s marks first later books (told_by said intake old) (still_running said intake)
               (told said intake none (reads s.limit on.past.text (taken on.past) on.input.is_intake)))
           | inr (intake, e, rose, stays, none, kept) ↦
-              goes_as view s first later books (record old { intake = intake; stopped = Some ReadFault }) new e
+              goes_as view s marks first later books (record old { intake = intake; stopped = Some ReadFault }) new e
               (failed intake stays none (kept s.limit on.past.text (taken on.past) on.input.is_intake))
         ]

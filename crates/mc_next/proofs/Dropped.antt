@@ -77,10 +77,10 @@ module _ {D : Type 0} (view : D → StoreView) (openings : ℕ → StoreState) (
 
 -- replies of what was given up were taken
 pub given_taken :
-    {D : Type 0} (view : D → StoreView) (s : Setting) (session : Session) (first now : SessionView) (books books_new : StoreBooks D) (w w_new : Work)
-    → session.work ≡ Some w → HasTakenReplies view w w_new books books_new → HasGivenUp view s session first now books
-    → HasGivenUp view s (record session { work = Some w_new }) first now books_new
-given_taken view s session first now books books_new w w_new e takes g = record {
+    {D : Type 0} (view : D → StoreView) (s : Setting) (marks : List (ℕ → StoreView)) (session : Session) (first now : SessionView) (books books_new : StoreBooks D) (w w_new : Work)
+    → session.work ≡ Some w → HasTakenReplies view w w_new books books_new → HasGivenUp view s marks session first now books
+    → HasGivenUp view s marks (record session { work = Some w_new }) first now books_new
+given_taken view s marks session first now books books_new w w_new e takes g = record {
   past = g.past;
   input = g.input;
   clock = g.clock;
@@ -88,6 +88,9 @@ given_taken view s session first now books books_new w w_new e takes g = record 
   is_written = g.is_written;
   was = g.was;
   answered = g.answered;
+  in_turn = g.in_turn;
+  was_is = g.was_is;
+  few = g.few;
   asked = g.asked;
   others = g.others;
   questions = g.questions;
@@ -95,7 +98,7 @@ given_taken view s session first now books books_new w w_new e takes g = record 
 }
 
 -- where there is no place for a reply, none came to be dropped
-pub none_to_drop : {D : Type 0} (view : D → StoreView) (openings : ℕ → StoreState) (s : Setting) (session : Session) (first now : SessionView) (books : StoreBooks D)
-    → session.work ≡ None → IsClient view openings books → HasGivenUp view s session first now books → books.arrived.items ≡ []
-none_to_drop view openings s session first now books e client g =
+pub none_to_drop : {D : Type 0} (view : D → StoreView) (openings : ℕ → StoreState) (s : Setting) (marks : List (ℕ → StoreView)) (session : Session) (first now : SessionView) (books : StoreBooks D)
+    → session.work ≡ None → IsClient view openings books → HasGivenUp view s marks session first now books → books.arrived.items ≡ []
+none_to_drop view openings s marks session first now books e client g =
     none_arrived view openings g.was g.asked books client (subst (λ work. AsksFor view g.was g.asked work books) e g.asks [])

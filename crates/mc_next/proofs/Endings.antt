@@ -33,7 +33,7 @@ use Rattle.mc_next.specs.declared.work.Work.{Work}
 use Rattle.mc_next.specs.Parts.{StoreTask, StoreQuestion, StoreView}
 use Rattle.mc_next.specs.Clients.{StoreBooks}
 use Rattle.mc_next.specs.Works.{StoreState}
-use Rattle.mc_next.specs.Runs.{Setting, SessionView, IsWholeRun, IsBrokenRun, HaveReplies, HasAnswered, HasStopped, IsOver, HasRun, asked_for, all_of}
+use Rattle.mc_next.specs.Runs.{Setting, SessionView, IsWholeRun, IsBrokenRun, HaveReplies, HasAnswered, HasStopped, IsOver, HasRun, WholeInTurn, BrokenInTurn, IsInTurn, AreAskedInTurn, asked_for, all_of}
 use Rattle.mc_next.specs.Sessions.{Past, taken, AsksFor, HasReplied, IsOn, HasGivenUp, HasStoppedFor, IsGoing, HasEndedSo, IsOverSo, IsNotDone, IsSession, seen}
 use Rattle.mc_next.proofs.Quitting.{until_front, until_there, has_front}
 use Rattle.mc_next.proofs.Took.{IsIdle, idle_of, idle_taken}
@@ -70,7 +70,7 @@ some_longer requests more replies was now h =
       replied = h.replied;
     }
 
-module _ {D : Type 0} (view : D → StoreView) (s : Setting) (first : SessionView) (books : StoreBooks D) (left readings written : Option (List ℕ))
+module _ {D : Type 0} (view : D → StoreView) (s : Setting) (marks : List (ℕ → StoreView)) (first : SessionView) (books : StoreBooks D) (left readings written : Option (List ℕ))
     (openings : ℕ → StoreState) (client : IsClient view openings books) (lanes : length books.lanes.items ≡ s.trustees) where
   -- where no request counts, nothing was asked since
   module _ (p : Past) (was : ℕ → StoreView) (answered : HasReplied s p first.sides was) (asks : IsAsking view Missing was [] [] books) (none : NoneCounts books) where
@@ -85,80 +85,102 @@ module _ {D : Type 0} (view : D → StoreView) (s : Setting) (first : SessionVie
         (subst (λ l. HasAskedAll Missing l (replies_at t qs (all_of p.replies)) (first.sides t) (view lane.side)) (append-nil (requests_at t qs))
         (subst (λ l. HasAskedAll Missing (requests_at t qs ++ []) l (first.sides t) (view lane.side)) (append-nil (replies_at t qs (all_of p.replies))) both))
 
-  module _ (session : Session) (on : IsOn view s session first (seen view books left readings written) books) (idle : session.work ≡ None) (gathered : session.gathered ≡ []) where
-    known : IsIdle view s on.past first.sides books
-    known = idle_of view s on.past session.moment session.work first.sides books idle on.client
+  -- messages were answered, one command after another
+  abbrev pub IsRunInTurn : List Message → Type 0
+  IsRunInTurn ms = (run : IsWholeRun s ms first (seen view books left readings written)) × WholeInTurn s marks ms first (seen view books left readings written) run
+
+  abbrev pub HasAnsweredInTurn : (List ℕ → List Message → List ℕ → Type 0) → Type 0
+  HasAnsweredInTurn Ends =
+      (has : HasAnswered s first (seen view books left readings written) Ends) × WholeInTurn s marks (until_quit has.messages) first (seen view books left readings written) has.run
+
+  -- a session that ended so has run, one command after another
+  abbrev pub HasRunInTurn : Ended → Type 0
+  HasRunInTurn ended = (run : HasRun s ended first (seen view books left readings written)) × IsInTurn s marks ended first (seen view books left readings written) run
+
+  module _ (session : Session) (on : IsOn view s marks session first (seen view books left readings written) books) (idle : session.work ≡ None) (gathered : session.gathered ≡ []) where
+    known : IsIdle view s marks on.past first.sides books
+    known = idle_of view s marks on.past session.moment session.work first.sides books idle on.client
 
     all_answered : taken on.past ≡ on.past.answered
     all_answered = idle_taken on.past known.begun
 
-    whole : IsWholeRun s (taken on.past) first (seen view books left readings written)
-    whole = record {
-      readings = on.past.readings;
-      is_read = on.clock.is_read;
-      once = on.clock.once;
-      replies = on.past.replies;
-      each = subst (λ ms. HaveReplies (asked_for s ms on.past.readings) on.past.replies) (sym all_answered) on.output.each;
-      asked = subst (λ ms. (t : ℕ) → t < s.trustees → HasAskedAll Missing (requests_at t (all_of (asked_for s ms on.past.readings)))
-          (replies_at t (all_of (asked_for s ms on.past.readings)) (all_of on.past.replies)) (first.sides t) (sides_of view books t)) (sym all_answered)
-          (replied_now on.past known.was known.answered (known.asks []) known.none);
-      is_written = subst (λ bytes. Grows first.output written bytes)
-          (sym (append-nil on.past.written) ∙ ap (λ l. on.past.written ++ l) (sym gathered) ∙ on.output.gathered_is
-          ∙ ap (λ ms. rendered (shown_of_all ms on.past.replies)) (sym all_answered)) on.output.is_written;
-    }
+    whole : IsRunInTurn (taken on.past)
+    whole = (
+      record {
+        readings = on.past.readings;
+        is_read = on.clock.is_read;
+        once = on.clock.once;
+        replies = on.past.replies;
+        each = subst (λ ms. HaveReplies (asked_for s ms on.past.readings) on.past.replies) (sym all_answered) on.output.each;
+        asked = subst (λ ms. (t : ℕ) → t < s.trustees → HasAskedAll Missing (requests_at t (all_of (asked_for s ms on.past.readings)))
+            (replies_at t (all_of (asked_for s ms on.past.readings)) (all_of on.past.replies)) (first.sides t) (sides_of view books t)) (sym all_answered)
+            (replied_now on.past known.was known.answered (known.asks []) known.none);
+        is_written = subst (λ bytes. Grows first.output written bytes)
+            (sym (append-nil on.past.written) ∙ ap (λ l. on.past.written ++ l) (sym gathered) ∙ on.output.gathered_is
+            ∙ ap (λ ms. rendered (shown_of_all ms on.past.replies)) (sym all_answered)) on.output.is_written;
+      },
+      subst (λ ms. AreAskedInTurn s.trustees (asked_for s ms on.past.readings) on.past.replies first.sides marks) (sym all_answered) on.client.in_turn,
+    )
 
-    whole_until : IsWholeRun s (until_quit (taken on.past)) first (seen view books left readings written)
-    whole_until = subst (λ ms. IsWholeRun s ms first (seen view books left readings written)) (sym on.input.until) whole
+    whole_until : IsRunInTurn (until_quit (taken on.past))
+    whole_until = subst (λ ms. IsRunInTurn ms) (sym on.input.until) whole
 
     -- all that came is fed
     module _ (fed : unfed session.intake ≡ []) (no_quit : session.quit ≡ false) where
       answered_all : (Ends : List ℕ → List Message → List ℕ → Type 0) → Ends on.past.text (taken on.past) on.input.is_intake.is_read.held
-          → HasAnswered s first (seen view books left readings written) Ends
-      answered_all Ends ends = record {
-        text = on.past.text;
-        messages = taken on.past;
-        rest = on.input.is_intake.is_read.held;
-        has_read = record { came = on.input.came; reads = reads_all s.limit on.past.text (taken on.past) session.intake on.input.is_intake fed };
-        ends = ends;
-        run = whole_until;
-      }
+          → HasAnsweredInTurn Ends
+      answered_all Ends ends = (
+        record {
+          text = on.past.text;
+          messages = taken on.past;
+          rest = on.input.is_intake.is_read.held;
+          has_read = record { came = on.input.came; reads = reads_all s.limit on.past.text (taken on.past) session.intake on.input.is_intake fed };
+          ends = ends;
+          run = whole_until.0;
+        },
+        whole_until.1,
+      )
 
       none_quit : has_quit (taken on.past) ≡ false
       none_quit = sym on.input.quit_is ∙ no_quit
 
-      pub ends_too_much : session.too_much ≡ true → HasRun s TooMuch first (seen view books left readings written)
+      pub ends_too_much : session.too_much ≡ true → HasRunInTurn TooMuch
       ends_too_much much = answered_all (λ text messages rest. (has_quit messages ≡ false) × (s.limit < length text)) (none_quit, on.input.above much)
 
-      pub ends_failed : session.too_much ≡ false → HasRun s ReadFault first (seen view books left readings written)
+      pub ends_failed : session.too_much ≡ false → HasRunInTurn ReadFault
       ends_failed few = answered_all (λ text messages rest. (has_quit messages ≡ false) × (length text ≤ s.limit)) (none_quit, on.input.fits few)
 
       over : session.at_end ≡ true → IsOver s first (seen view books left readings written) on.past.text (taken on.past)
       over ended = record { came = (on.input.ended ended).0; fits = on.input.fits (on.input.ended ended).2; no_quit = none_quit }
 
-      pub ends_between : session.at_end ≡ true → on.input.is_intake.is_read.held ≡ [] → HasRun s AtEnd first (seen view books left readings written)
+      pub ends_between : session.at_end ≡ true → on.input.is_intake.is_read.held ≡ [] → HasRunInTurn AtEnd
       ends_between ended none = answered_all (λ text messages rest. IsOver s first (seen view books left readings written) text messages × (rest ≡ [])) (over ended, none)
 
-      pub ends_inside : session.at_end ≡ true → on.input.is_intake.is_read.held ≢ [] → HasRun s Inside first (seen view books left readings written)
+      pub ends_inside : session.at_end ≡ true → on.input.is_intake.is_read.held ≢ [] → HasRunInTurn Inside
       ends_inside ended some = answered_all (λ text messages rest. IsOver s first (seen view books left readings written) text messages × (rest ≢ [])) (over ended, some)
 
-    pub ends_quit : session.quit ≡ true → HasRun s Quit first (seen view books left readings written)
+    pub ends_quit : session.quit ≡ true → HasRunInTurn Quit
     ends_quit quit =
         let has : has_quit (taken on.past) ≡ true = sym on.input.quit_is ∙ quit in
-        let (others, end, reads) = reads_on s.limit on.past.text (taken on.past) session.intake on.input.is_intake in record {
-          text = on.past.text;
-          messages = taken on.past ++ others;
-          rest = end;
-          has_read = record { came = on.input.came; reads = reads };
-          ends = has_front (taken on.past) others has;
-          run = subst (λ ms. IsWholeRun s ms first (seen view books left readings written)) (sym (until_there (taken on.past) others has on.input.until)) whole;
-        }
+        let (others, end, reads) = reads_on s.limit on.past.text (taken on.past) session.intake on.input.is_intake in
+        let both : IsRunInTurn (until_quit (taken on.past ++ others)) = subst (λ ms. IsRunInTurn ms) (sym (until_there (taken on.past) others has on.input.until)) whole in (
+          record {
+            text = on.past.text;
+            messages = taken on.past ++ others;
+            rest = end;
+            has_read = record { came = on.input.came; reads = reads };
+            ends = has_front (taken on.past) others has;
+            run = both.0;
+          },
+          both.1,
+        )
 
   begun_of : (was : ℕ → StoreView) (asked : List StoreQuestion) (work : Option Work) → AsksFor view was asked work books → AreBegun view was asked books
   begun_of was asked None asks = begun_so_far view Missing was asked [] books (asks [])
   begun_of was asked (Some w) asks = begun_so_far view Missing was asked w.asking.replies.items books asks
 
   -- what was given up is a broken run
-  module _ (session : Session) (g : HasGivenUp view s session first (seen view books left readings written) books) where
+  module _ (session : Session) (g : HasGivenUp view s marks session first (seen view books left readings written) books) where
     first_asked : (t : ℕ) → t < s.trustees → HasAskedSome Missing (requests_at t (all_of (asked_for s (taken g.past) g.past.readings)))
         (replies_at t (all_of (asked_for s g.past.answered g.past.readings)) (all_of g.past.replies)) (first.sides t) (sides_of view books t)
     first_asked = λ t below.
@@ -177,34 +199,41 @@ module _ {D : Type 0} (view : D → StoreView) (s : Setting) (first : SessionVie
         (subst (λ l. HasAskedSome Missing l (replies_at t qs rs) (first.sides t) (view lane.side)) (sym all)
         (subst (λ l. HasAskedSome Missing ((requests_at t qs ++ requests_at t g.asked) ++ requests_at t g.others) l (first.sides t) (view lane.side)) (append-nil (replies_at t qs rs)) longer))
 
-    broken : (others : List Message) → IsBrokenRun s (until_quit (taken g.past ++ others)) first (seen view books left readings written)
-    broken others = record {
-      answered = g.past.answered;
-      others = g.past.begun;
-      untaken = cond (has_quit (taken g.past)) [] (until_quit others);
-      parts = until_front (taken g.past) others g.input.until;
-      readings = g.past.readings;
-      is_read = g.clock.is_read;
-      once = g.clock.once;
-      replies = g.past.replies;
-      each = g.each;
-      asked = first_asked;
-      is_written = g.is_written;
-    }
+    broken : (others : List Message) → (run : IsBrokenRun s (until_quit (taken g.past ++ others)) first (seen view books left readings written))
+        × BrokenInTurn s marks (until_quit (taken g.past ++ others)) first (seen view books left readings written) run
+    broken others = (
+      record {
+        answered = g.past.answered;
+        others = g.past.begun;
+        untaken = cond (has_quit (taken g.past)) [] (until_quit others);
+        parts = until_front (taken g.past) others g.input.until;
+        readings = g.past.readings;
+        is_read = g.clock.is_read;
+        once = g.clock.once;
+        replies = g.past.replies;
+        each = g.each;
+        asked = first_asked;
+        is_written = g.is_written;
+      },
+      (g.in_turn, g.few),
+    )
 
-    pub has_stopped : HasStopped s first (seen view books left readings written)
+    pub has_stopped : (run : HasStopped s first (seen view books left readings written)) × BrokenInTurn s marks (until_quit run.messages) first (seen view books left readings written) run.run
     has_stopped =
-        let (others, end, reads) = reads_on s.limit g.past.text (taken g.past) session.intake g.input.is_intake in record {
-          text = g.past.text;
-          messages = taken g.past ++ others;
-          rest = end;
-          has_read = record { came = g.input.came; reads = reads };
-          run = broken others;
-        }
+        let (others, end, reads) = reads_on s.limit g.past.text (taken g.past) session.intake g.input.is_intake in (
+          record {
+            text = g.past.text;
+            messages = taken g.past ++ others;
+            rest = end;
+            has_read = record { came = g.input.came; reads = reads };
+            run = (broken others).0;
+          },
+          (broken others).1,
+        )
 
   -- a session that is over has run so
-  stopped_run : (session : Session) (ended : Ended) → HasStoppedFor view s ended session first (seen view books left readings written) books
-      → HasRun s ended first (seen view books left readings written)
+  stopped_run : (session : Session) (ended : Ended) → HasStoppedFor view s marks ended session first (seen view books left readings written) books
+      → HasRunInTurn ended
   stopped_run session AtEnd h = absurd h
   stopped_run session Quit h = absurd h
   stopped_run session Inside h = absurd h
@@ -213,8 +242,8 @@ module _ {D : Type 0} (view : D → StoreView) (s : Setting) (first : SessionVie
   stopped_run session TooMuch h = absurd h
   stopped_run session NoMemory h = has_stopped session h
 
-  ended_run : (session : Session) (ended : Ended) → IsOn view s session first (seen view books left readings written) books → session.work ≡ None → session.gathered ≡ []
-      → HasEndedSo ended session → HasRun s ended first (seen view books left readings written)
+  ended_run : (session : Session) (ended : Ended) → IsOn view s marks session first (seen view books left readings written) books → session.work ≡ None → session.gathered ≡ []
+      → HasEndedSo ended session → HasRunInTurn ended
   ended_run session AtEnd on idle gathered h =
       ends_between session on idle gathered (on.input.ended h.1).1 h.0 h.1 (h.2 s.limit on.past.text (taken on.past) on.input.is_intake)
   ended_run session Quit on idle gathered h = ends_quit session on idle gathered h
@@ -225,19 +254,19 @@ module _ {D : Type 0} (view : D → StoreView) (s : Setting) (first : SessionVie
   ended_run session TooMuch on idle gathered h = ends_too_much session on idle gathered h.2 h.0 h.1
   ended_run session NoMemory on idle gathered h = absurd h
 
-  pub over_run : (session : Session) (ended : Ended) → IsGoing view s session.stopped session first (seen view books left readings written) books
-      → IsOverSo ended session books → HasRun s ended first (seen view books left readings written)
+  pub over_run : (session : Session) (ended : Ended) → IsGoing view s marks session.stopped session first (seen view books left readings written) books
+      → IsOverSo ended session books → HasRunInTurn ended
   over_run session ended going (inl (stopped, none)) =
-      stopped_run session ended (subst (λ o. IsGoing view s o session first (seen view books left readings written) books) stopped going)
+      stopped_run session ended (subst (λ o. IsGoing view s marks o session first (seen view books left readings written) books) stopped going)
   over_run session ended going (inr (running, idle, gathered, so)) =
-      ended_run session ended (subst (λ o. IsGoing view s o session first (seen view books left readings written) books) running going) idle gathered so
+      ended_run session ended (subst (λ o. IsGoing view s marks o session first (seen view books left readings written) books) running going) idle gathered so
 
 -- how it ended is no part of what it did
-module _ {D : Type 0} (view : D → StoreView) (s : Setting) (session : Session) (over : Option Ended) (first now : SessionView) (books : StoreBooks D) where
-  on_over : IsOn view s session first now books → IsOn view s (record session { over = over }) first now books
+module _ {D : Type 0} (view : D → StoreView) (s : Setting) (marks : List (ℕ → StoreView)) (session : Session) (over : Option Ended) (first now : SessionView) (books : StoreBooks D) where
+  on_over : IsOn view s marks session first now books → IsOn view s marks (record session { over = over }) first now books
   on_over on = record { past = on.past; input = on.input; clock = on.clock; output = on.output; client = on.client }
 
-  given_over : HasGivenUp view s session first now books → HasGivenUp view s (record session { over = over }) first now books
+  given_over : HasGivenUp view s marks session first now books → HasGivenUp view s marks (record session { over = over }) first now books
   given_over g = record {
     past = g.past;
     input = g.input;
@@ -246,13 +275,16 @@ module _ {D : Type 0} (view : D → StoreView) (s : Setting) (session : Session)
     is_written = g.is_written;
     was = g.was;
     answered = g.answered;
+    in_turn = g.in_turn;
+    was_is = g.was_is;
+    few = g.few;
     asked = g.asked;
     others = g.others;
     questions = g.questions;
     asks = g.asks;
   }
 
-  stopped_over : (why : Ended) → HasStoppedFor view s why session first now books → HasStoppedFor view s why (record session { over = over }) first now books
+  stopped_over : (why : Ended) → HasStoppedFor view s marks why session first now books → HasStoppedFor view s marks why (record session { over = over }) first now books
   stopped_over AtEnd h = absurd h
   stopped_over Quit h = absurd h
   stopped_over Inside h = absurd h
@@ -261,17 +293,17 @@ module _ {D : Type 0} (view : D → StoreView) (s : Setting) (session : Session)
   stopped_over TooMuch h = absurd h
   stopped_over NoMemory h = given_over h
 
-  pub going_over : (stopped : Option Ended) → IsGoing view s stopped session first now books → IsGoing view s stopped (record session { over = over }) first now books
+  pub going_over : (stopped : Option Ended) → IsGoing view s marks stopped session first now books → IsGoing view s marks stopped (record session { over = over }) first now books
   going_over None on = on_over on
   going_over (Some why) h = stopped_over why h
 
 -- and no request counts
-pub none_over : {D : Type 0} (view : D → StoreView) (s : Setting) (first now : SessionView) (books : StoreBooks D) (session : Session) (ended : Ended)
-    → IsGoing view s session.stopped session first now books → IsOverSo ended session books → NoneCounts books
-none_over view s first now books session ended going (inl (stopped, none)) = none
-none_over view s first now books session ended going (inr (running, idle, gathered, so)) =
-    let on = subst (λ o. IsGoing view s o session first now books) running going in
-    (idle_of view s on.past session.moment session.work first.sides books idle on.client).none
+pub none_over : {D : Type 0} (view : D → StoreView) (s : Setting) (marks : List (ℕ → StoreView)) (first now : SessionView) (books : StoreBooks D) (session : Session) (ended : Ended)
+    → IsGoing view s marks session.stopped session first now books → IsOverSo ended session books → NoneCounts books
+none_over view s marks first now books session ended going (inl (stopped, none)) = none
+none_over view s marks first now books session ended going (inr (running, idle, gathered, so)) =
+    let on = subst (λ o. IsGoing view s marks o session first now books) running going in
+    (idle_of view s marks on.past session.moment session.work first.sides books idle on.client).none
 
 still_not_done : {D : Type 0} (stopped : Option Ended) (session : Session) (books : StoreBooks D) → IsNotDone stopped session books → IsNotDone stopped (record session { over = None }) books
 still_not_done None session books h = h
@@ -279,17 +311,16 @@ still_not_done (Some why) session books h = h
 
 -- where a session is over it has run so, and else not all is done
 pub stepped :
-    {D : Type 0} (view : D → StoreView) (s : Setting) (first : SessionView) (books : StoreBooks D) (left readings written : Option (List ℕ)) (openings : ℕ → StoreState)
+    {D : Type 0} (view : D → StoreView) (s : Setting) (marks : List (ℕ → StoreView)) (first : SessionView) (books : StoreBooks D) (left readings written : Option (List ℕ)) (openings : ℕ → StoreState)
     → IsClient view openings books → length books.lanes.items ≡ s.trustees → (session : Session) (over : Option Ended)
     → MatchOption over (IsNotDone session.stopped session books) (λ ended. IsOverSo ended session books)
-    → IsGoing view s session.stopped session first (seen view books left readings written) books
-    → IsSession view s (record session { over = over }) first (seen view books left readings written) books
-stepped view s first books left readings written openings client lanes session None not_done going =
-    (going_over view s session None first (seen view books left readings written) books session.stopped going, still_not_done session.stopped session books not_done)
-stepped view s first books left readings written openings client lanes session (Some ended) so going = (
-  over_run view s first books left readings written openings client lanes session ended going so,
-  none_over view s first (seen view books left readings written) books session ended going so,
-)
+    → IsGoing view s marks session.stopped session first (seen view books left readings written) books
+    → IsSession view s marks (record session { over = over }) first (seen view books left readings written) books
+stepped view s marks first books left readings written openings client lanes session None not_done going =
+    (going_over view s marks session None first (seen view books left readings written) books session.stopped going, still_not_done session.stopped session books not_done)
+stepped view s marks first books left readings written openings client lanes session (Some ended) so going =
+    let (run, in_turn) = over_run view s marks first books left readings written openings client lanes session ended going so in
+    (run, in_turn, none_over view s marks first (seen view books left readings written) books session ended going so)
 
 -- what was not over is so by nothing
 pub not_over : (over : Option Ended) → ((ended : Ended) → over ≡ Some ended → ⊥) → over ≡ None
@@ -297,8 +328,8 @@ not_over None none = refl
 not_over (Some ended) none = absurd (none ended refl)
 
 -- whether it stopped or not, its intake is one
-module _ {D : Type 0} (view : D → StoreView) (s : Setting) (session : Session) (first now : SessionView) (books : StoreBooks D) where
-  intake_stopped : (why : Ended) → HasStoppedFor view s why session first now books → (limit : ℕ) × (text : List ℕ) × (messages : List Message) × IsIntake limit text messages session.intake
+module _ {D : Type 0} (view : D → StoreView) (s : Setting) (marks : List (ℕ → StoreView)) (session : Session) (first now : SessionView) (books : StoreBooks D) where
+  intake_stopped : (why : Ended) → HasStoppedFor view s marks why session first now books → (limit : ℕ) × (text : List ℕ) × (messages : List Message) × IsIntake limit text messages session.intake
   intake_stopped AtEnd h = absurd h
   intake_stopped Quit h = absurd h
   intake_stopped Inside h = absurd h
@@ -307,42 +338,42 @@ module _ {D : Type 0} (view : D → StoreView) (s : Setting) (session : Session)
   intake_stopped TooMuch h = absurd h
   intake_stopped NoMemory g = (s.limit, g.past.text, taken g.past, g.input.is_intake)
 
-  pub intake_of : (stopped : Option Ended) → IsGoing view s stopped session first now books → (limit : ℕ) × (text : List ℕ) × (messages : List Message) × IsIntake limit text messages session.intake
+  pub intake_of : (stopped : Option Ended) → IsGoing view s marks stopped session first now books → (limit : ℕ) × (text : List ℕ) × (messages : List Message) × IsIntake limit text messages session.intake
   intake_of None on = (s.limit, on.past.text, taken on.past, on.input.is_intake)
   intake_of (Some why) h = intake_stopped why h
 
 -- a session that stopped while requests count was given up, and stays so
-module _ {D : Type 0} (view : D → StoreView) (s : Setting) (session : Session) (first now : SessionView) (books : StoreBooks D) (count : ¬ (NoneCounts books)) where
-  pub given_up_of : (why : Ended) → HasStoppedFor view s why session first now books → HasGivenUp view s session first now books
+module _ {D : Type 0} (view : D → StoreView) (s : Setting) (marks : List (ℕ → StoreView)) (session : Session) (first now : SessionView) (books : StoreBooks D) (count : ¬ (NoneCounts books)) where
+  pub given_up_of : (why : Ended) → HasStoppedFor view s marks why session first now books → HasGivenUp view s marks session first now books
   given_up_of AtEnd h = absurd h
   given_up_of Quit h = absurd h
   given_up_of Inside h = absurd h
-  given_up_of ReadFault h = let on = h.0 in absurd (count (idle_of view s on.past session.moment session.work first.sides books h.1 on.client).none)
+  given_up_of ReadFault h = let on = h.0 in absurd (count (idle_of view s marks on.past session.moment session.work first.sides books h.1 on.client).none)
   given_up_of WriteFault g = g
   given_up_of TooMuch h = absurd h
   given_up_of NoMemory g = g
 
-  pub still_given : (why : Ended) → HasStoppedFor view s why session first now books → (session_new : Session) (later : SessionView) (books_new : StoreBooks D)
-      → HasGivenUp view s session_new first later books_new → HasStoppedFor view s why session_new first later books_new
+  pub still_given : (why : Ended) → HasStoppedFor view s marks why session first now books → (session_new : Session) (later : SessionView) (books_new : StoreBooks D)
+      → HasGivenUp view s marks session_new first later books_new → HasStoppedFor view s marks why session_new first later books_new
   still_given AtEnd h session_new later books_new g = absurd h
   still_given Quit h session_new later books_new g = absurd h
   still_given Inside h session_new later books_new g = absurd h
-  still_given ReadFault h session_new later books_new g = let on = h.0 in absurd (count (idle_of view s on.past session.moment session.work first.sides books h.1 on.client).none)
+  still_given ReadFault h session_new later books_new g = let on = h.0 in absurd (count (idle_of view s marks on.past session.moment session.work first.sides books h.1 on.client).none)
   still_given WriteFault h session_new later books_new g = g
   still_given TooMuch h session_new later books_new g = absurd h
   still_given NoMemory h session_new later books_new g = g
 
-  module _ (why : Ended) (stopped : session.stopped ≡ Some why) (going : IsGoing view s session.stopped session first now books) where
-    stopped_for : HasStoppedFor view s why session first now books
-    stopped_for = subst (λ o. IsGoing view s o session first now books) stopped going
+  module _ (why : Ended) (stopped : session.stopped ≡ Some why) (going : IsGoing view s marks session.stopped session first now books) where
+    stopped_for : HasStoppedFor view s marks why session first now books
+    stopped_for = subst (λ o. IsGoing view s marks o session first now books) stopped going
 
-    pub given_now : HasGivenUp view s session first now books
+    pub given_now : HasGivenUp view s marks session first now books
     given_now = given_up_of why stopped_for
 
     pub drained_going : (session_new : Session) (later : SessionView) (books_new : StoreBooks D) → session_new ≡ record session { work = session_new.work }
-        → HasGivenUp view s session_new first later books_new → IsGoing view s session_new.stopped session_new first later books_new
+        → HasGivenUp view s marks session_new first later books_new → IsGoing view s marks session_new.stopped session_new first later books_new
     drained_going session_new later books_new same g =
-        subst (λ o. IsGoing view s o session_new first later books_new) (sym (ap (λ x. x.stopped) same ∙ stopped)) (still_given why stopped_for session_new later books_new g)
+        subst (λ o. IsGoing view s marks o session_new first later books_new) (sym (ap (λ x. x.stopped) same ∙ stopped)) (still_given why stopped_for session_new later books_new g)
 
 -- why it stopped, where it did
 pub why_stopped : (o : Option Ended) → is_some o ≡ true → (why : Ended) × (o ≡ Some why)

@@ -106,34 +106,34 @@ module _ {A B W : Type 0} (left left_now : Option (List ℕ)) (read_faults read_
   did_rest = by_gathered old.gathered refl
 
 -- and so it goes on
-module _ {D A B : Type 0} (view : D → StoreView) (s : Setting) (first : SessionView) (books : StoreBooks D) (left left_now readings written written_now : Option (List ℕ))
+module _ {D A B : Type 0} (view : D → StoreView) (s : Setting) (marks : List (ℕ → StoreView)) (first : SessionView) (books : StoreBooks D) (left left_now readings written written_now : Option (List ℕ))
     (read_faults read_faults_now write_faults write_faults_now : ℕ) (source source_now : A) (sink sink_now : B) (same_left : source_now ≡ source → left_now ≡ left)
-    (same_written : sink_now ≡ sink → written_now ≡ written) (mid new : Session) (on : IsOn view s mid first (seen view books left readings written) books) (idle : mid.work ≡ None)
+    (same_written : sink_now ≡ sink → written_now ≡ written) (mid new : Session) (on : IsOn view s marks mid first (seen view books left readings written) books) (idle : mid.work ≡ None)
     (running : mid.stopped ≡ None) (not_ended : mid.gathered ≡ [] → (mid.quit ≡ false) × (mid.at_end ≡ false))
     (wrote : mid.gathered ≢ [] → (source_now ≡ source) × HasWritten written written_now write_faults write_faults_now mid new)
     (read : mid.gathered ≡ [] → mid.too_much ≡ false → (sink_now ≡ sink) × HasReadOnce left left_now read_faults read_faults_now mid new)
     (stays : mid.gathered ≡ [] → mid.too_much ≡ true → (sink_now ≡ sink) × (source_now ≡ source) × (new ≡ mid)) where
   abbrev Goes : Type 0
-  Goes = IsGoing view s new.stopped new first (seen view books left_now readings written_now) books
+  Goes = IsGoing view s marks new.stopped new first (seen view books left_now readings written_now) books
 
   goes_written : mid.gathered ≢ [] → Goes
   goes_written some =
       let (same, has) = wrote some in
-      all_or_part view s first (seen view books left readings written) (seen view books left_now readings written_now) books mid on (same_left same) refl write_faults write_faults_now
+      all_or_part view s marks first (seen view books left readings written) (seen view books left_now readings written_now) books mid on (same_left same) refl write_faults write_faults_now
       running new has
 
   goes_read : mid.gathered ≡ [] → mid.too_much ≡ false → Goes
   goes_read none within =
       let (same, has) = read none within in
       let (no_quit, no_end) = not_ended none in
-      has_read view s first (seen view books left readings written) (seen view books left_now readings written_now) books mid on refl (same_written same) running no_end within idle
+      has_read view s marks first (seen view books left readings written) (seen view books left_now readings written_now) books mid on refl (same_written same) running no_end within idle
       none no_quit read_faults read_faults_now new has
 
   goes_fed : mid.gathered ≡ [] → mid.too_much ≡ true → Goes
   goes_fed none much =
       let (same_sink, same_source, same) = stays none much in
-      seen_going view s new first books (seen view books left readings written) (seen view books left_now readings written_now) (same_left same_source) refl (same_written same_sink)
-      new.stopped (goes_as view s first (seen view books left readings written) books mid new same (goes_on view s first (seen view books left readings written) books mid running on))
+      seen_going view s marks new first books (seen view books left readings written) (seen view books left_now readings written_now) (same_left same_source) refl (same_written same_sink)
+      new.stopped (goes_as view s marks first (seen view books left readings written) books mid new same (goes_on view s marks first (seen view books left readings written) books mid running on))
 
   goes_by_much : (b : Bool) → mid.gathered ≡ [] → mid.too_much ≡ b → Goes
   goes_by_much true none e = goes_fed none e
@@ -143,5 +143,5 @@ module _ {D A B : Type 0} (view : D → StoreView) (s : Setting) (first : Sessio
   goes_by [] e = goes_by_much mid.too_much e refl
   goes_by (x ∷ xs) e = goes_written (λ none. let both : x ∷ xs ≡ [] = sym e ∙ none in cc)
 
-  pub goes_rest : IsGoing view s new.stopped new first (seen view books left_now readings written_now) books
+  pub goes_rest : IsGoing view s marks new.stopped new first (seen view books left_now readings written_now) books
   goes_rest = goes_by mid.gathered refl

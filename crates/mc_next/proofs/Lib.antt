@@ -2,6 +2,7 @@ pub mod Quitting
 pub mod Streams
 pub mod Clients
 pub mod Answered
+pub mod Marked
 pub mod Finished
 pub mod Took
 pub mod Written

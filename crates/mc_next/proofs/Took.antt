@@ -22,38 +22,43 @@ use Rattle.mc_next.specs.declared.session.Session.{Session}
 use Rattle.mc_next.specs.declared.work.Work.{Work}
 use Rattle.mc_next.specs.Parts.{StoreView, questions_of, questions_each}
 use Rattle.mc_next.specs.Clients.{StoreBooks}
-use Rattle.mc_next.specs.Runs.{Setting, SessionView, HaveReplies, asked_for, all_of}
+use Rattle.mc_next.specs.Runs.{Setting, SessionView, HaveReplies, asked_for, all_of, AreAskedInTurn, last_of}
 use Rattle.mc_next.specs.Works.{left_of, IsWork}
-use Rattle.mc_next.specs.Sessions.{Past, taken, latest_of, HasCome, HasTicked, HasShown, HasReplied, HasAskedOn, AsksFor, IsOn, HasGivenUp, IsGoing}
+use Rattle.mc_next.specs.Sessions.{Past, taken, latest_of, HasCome, HasTicked, HasShown, HasReplied, HasAskedOn, AsksFor, IsOn, HasGivenUp, IsGoing, IsGoingOn}
 use Rattle.mc_next.specs.Deeds.{without_memory, with_command, HasGathered, HasBegun, HasMet}
 use Rattle.mc_next.proofs.Quitting.{has_more, until_more}
 use Rattle.mc_next.proofs.Streams.{grows_more, latest_more, moments_more, moments_count, questions_front, questions_count, commands_more, commands_same, replies_count, shown_fault}
 use Rattle.mc_next.proofs.Answered.{all_asked}
-use Rattle.mc_next.proofs.Finished.{front_of, goes_on, goes_as, finished}
+use Rattle.mc_next.proofs.Finished.{front_of, goes_on, goes_as, finished_on}
+use Rattle.mc_next.proofs.Marked.{none_marked}
 use Rattle.mc_next.proofs.Turned.{seen_going}
 
 -- what is known of a client where nothing is at work
-pub record IsIdle {D : Type 0} (view : D → StoreView) (s : Setting) (p : Past) (before : ℕ → StoreView) (books : StoreBooks D) : Type 0 where
+pub record IsIdle {D : Type 0} (view : D → StoreView) (s : Setting) (marks : List (ℕ → StoreView)) (p : Past) (before : ℕ → StoreView) (books : StoreBooks D) : Type 0 where
   pub begun : p.begun ≡ []
   pub was : ℕ → StoreView
   pub answered : HasReplied s p before was
+  pub in_turn : AreAskedInTurn s.trustees (asked_for s p.answered p.readings) p.replies before marks
+  pub was_is : was ≡ last_of before marks
   pub asks : (replies : List ShardReply) → IsAsking view Missing was [] replies books
   pub none : NoneCounts books
 
-pub idle_of : {D : Type 0} (view : D → StoreView) (s : Setting) (p : Past) (moment : ℕ) (work : Option Work) (before : ℕ → StoreView) (books : StoreBooks D)
-    → work ≡ None → HasAskedOn view s p moment work before books → IsIdle view s p before books
-idle_of view s p moment None before books e h = record {
+pub idle_of : {D : Type 0} (view : D → StoreView) (s : Setting) (marks : List (ℕ → StoreView)) (p : Past) (moment : ℕ) (work : Option Work) (before : ℕ → StoreView) (books : StoreBooks D)
+    → work ≡ None → HasAskedOn view s marks p moment work before books → IsIdle view s marks p before books
+idle_of view s marks p moment None before books e h = record {
   begun = h.at_work.0;
   was = h.was;
   answered = h.answered;
+  in_turn = h.in_turn;
+  was_is = h.was_is;
   asks = λ replies. subst (λ asked. IsAsking view Missing h.was asked replies books) h.at_work.1 (h.asks replies);
   none = h.at_work.2;
 }
-idle_of view s p moment (Some w) before books e h = absurd cc
+idle_of view s marks p moment (Some w) before books e h = absurd cc
 
-pub idle_on : {D : Type 0} (view : D → StoreView) (s : Setting) (p : Past) (moment : ℕ) (before : ℕ → StoreView) (books : StoreBooks D)
-    → IsIdle view s p before books → HasAskedOn view s p moment None before books
-idle_on view s p moment before books i = record { was = i.was; answered = i.answered; asked = []; asks = i.asks; at_work = (i.begun, refl, i.none) }
+pub idle_on : {D : Type 0} (view : D → StoreView) (s : Setting) (marks : List (ℕ → StoreView)) (p : Past) (moment : ℕ) (before : ℕ → StoreView) (books : StoreBooks D)
+    → IsIdle view s marks p before books → HasAskedOn view s marks p moment None before books
+idle_on view s marks p moment before books i = record { was = i.was; answered = i.answered; in_turn = i.in_turn; was_is = i.was_is; asked = []; asks = i.asks; at_work = (i.begun, refl, i.none) }
 
 -- one message more came
 pub come_more :
@@ -108,10 +113,10 @@ module _ (s : Setting) where
 pub idle_taken : (p : Past) → p.begun ≡ [] → taken p ≡ p.answered
 idle_taken p e = ap (λ b. p.answered ++ b) e ∙ append-nil p.answered
 
-module _ {D : Type 0} (view : D → StoreView) (s : Setting) (first now : SessionView) (books : StoreBooks D) (old : Session)
-    (on : IsOn view s old first now books) (idle : old.work ≡ None) (running : old.stopped ≡ None) (no_quit : old.quit ≡ false) where
-  known : IsIdle view s on.past first.sides books
-  known = idle_of view s on.past old.moment old.work first.sides books idle on.client
+module _ {D : Type 0} (view : D → StoreView) (s : Setting) (marks : List (ℕ → StoreView)) (first now : SessionView) (books : StoreBooks D) (old : Session)
+    (on : IsOn view s marks old first now books) (idle : old.work ≡ None) (running : old.stopped ≡ None) (no_quit : old.quit ≡ false) where
+  known : IsIdle view s marks on.past first.sides books
+  known = idle_of view s marks on.past old.moment old.work first.sides books idle on.client
 
   same : taken on.past ≡ on.past.answered
   same = idle_taken on.past known.begun
@@ -139,8 +144,8 @@ module _ {D : Type 0} (view : D → StoreView) (s : Setting) (first now : Sessio
     fault_same : asked_for s (on.past.answered ++ message.Fault fault ∷ []) on.past.readings ≡ asked_for s on.past.answered on.past.readings
     fault_same = ap (λ cs. questions_each s.named s.trustees cs (moments_of on.past.readings)) (commands_same on.past.answered fault)
 
-    fault_on : (new : Session) → new ≡ record old { intake = intake; gathered = old.gathered ++ bytes_of (shown_of_fault fault) } → IsOn view s new first now books
-    fault_on new e = subst (λ session. IsOn view s session first now books) (sym e) (record {
+    fault_on : (new : Session) → new ≡ record old { intake = intake; gathered = old.gathered ++ bytes_of (shown_of_fault fault) } → IsOn view s marks new first now books
+    fault_on new e = subst (λ session. IsOn view s marks session first now books) (sym e) (record {
       past = record on.past { answered = on.past.answered ++ message.Fault fault ∷ []; begun = [] };
       input =
           subst (λ quit. HasCome s.limit on.past.text ((on.past.answered ++ message.Fault fault ∷ []) ++ []) intake quit old.at_end old.too_much first.input now.input) (sym no_quit)
@@ -157,19 +162,21 @@ module _ {D : Type 0} (view : D → StoreView) (s : Setting) (first now : Sessio
             ∙ ap (λ bytes. bytes ++ bytes_of (shown_of_fault fault)) on.output.gathered_is
             ∙ sym (shown_fault on.past.answered on.past.replies fault as_many);
       };
-      client = subst (λ work. HasAskedOn view s (record on.past { answered = on.past.answered ++ message.Fault fault ∷ []; begun = [] }) old.moment work first.sides books) (sym idle)
-          (idle_on view s (record on.past { answered = on.past.answered ++ message.Fault fault ∷ []; begun = [] }) old.moment first.sides books (record {
+      client = subst (λ work. HasAskedOn view s marks (record on.past { answered = on.past.answered ++ message.Fault fault ∷ []; begun = [] }) old.moment work first.sides books) (sym idle)
+          (idle_on view s marks (record on.past { answered = on.past.answered ++ message.Fault fault ∷ []; begun = [] }) old.moment first.sides books (record {
             begun = refl;
             was = known.was;
             answered = λ t below. subst (λ qs. HasAskedAll Missing (requests_at t (all_of qs)) (replies_at t (all_of qs) (all_of on.past.replies)) (first.sides t) (known.was t)) (sym fault_same) (known.answered t below);
+            in_turn = subst (λ qs. AreAskedInTurn s.trustees qs on.past.replies first.sides marks) (sym fault_same) known.in_turn;
+            was_is = known.was_is;
             asks = known.asks;
             none = known.none;
           }));
     })
 
     -- memory was wanting for its bytes: it is taken, and given up
-    fault_lost : (new : Session) → new ≡ record old { intake = intake; stopped = Some NoMemory } → HasGivenUp view s new first now books
-    fault_lost new e = subst (λ session. HasGivenUp view s session first now books) (sym e) (record {
+    fault_lost : (new : Session) → new ≡ record old { intake = intake; stopped = Some NoMemory } → HasGivenUp view s marks new first now books
+    fault_lost new e = subst (λ session. HasGivenUp view s marks session first now books) (sym e) (record {
       past = record on.past { begun = message.Fault fault ∷ [] };
       input =
           subst (λ quit. HasCome s.limit on.past.text (on.past.answered ++ message.Fault fault ∷ []) intake quit old.at_end old.too_much first.input now.input) (sym no_quit)
@@ -179,17 +186,20 @@ module _ {D : Type 0} (view : D → StoreView) (s : Setting) (first now : Sessio
       is_written = front_of first.output now.output on.past.written old.gathered _ on.output.is_written on.output.gathered_is;
       was = known.was;
       answered = known.answered;
+      in_turn = known.in_turn;
+      was_is = known.was_is;
+      few = omega arith;
       asked = [];
       others = [];
       questions = append-nil _ ∙ ap all_of (sym fault_same);
       asks = subst (λ work. AsksFor view known.was [] work books) (sym idle) known.asks;
     })
 
-    pub fault_taken : (new : Session) → HasGathered (shown_of_fault fault) (record old { intake = intake }) new → IsGoing view s new.stopped new first now books
+    pub fault_taken : (new : Session) → HasGathered (shown_of_fault fault) (record old { intake = intake }) new → IsGoing view s marks new.stopped new first now books
     fault_taken new h =
         elim h [
-          | inl e ↦ subst (λ stopped. IsGoing view s stopped new first now books) (sym (ap (λ session. session.stopped) e ∙ running)) (fault_on new e)
-          | inr e ↦ subst (λ stopped. IsGoing view s stopped new first now books) (sym (ap (λ session. session.stopped) e)) (fault_lost new e)
+          | inl e ↦ subst (λ stopped. IsGoing view s marks stopped new first now books) (sym (ap (λ session. session.stopped) e ∙ running)) (fault_on new e)
+          | inr e ↦ subst (λ stopped. IsGoing view s marks stopped new first now books) (sym (ap (λ session. session.stopped) e)) (fault_lost new e)
         ]
 
   module _ (command : Command) (reading : ℕ) (later : SessionView) (same_input : later.input ≡ now.input) (same_output : later.output ≡ now.output)
@@ -217,9 +227,12 @@ module _ {D : Type 0} (view : D → StoreView) (s : Setting) (first now : Sessio
     answered_still = λ t below.
         subst (λ qs. HasAskedAll Missing (requests_at t (all_of qs)) (replies_at t (all_of qs) (all_of on.past.replies)) (first.sides t) (known.was t)) (sym still) (known.answered t below)
 
+    in_turn_still : AreAskedInTurn s.trustees (asked_for s on.past.answered (on.past.readings ++ reading ∷ [])) on.past.replies first.sides marks
+    in_turn_still = subst (λ qs. AreAskedInTurn s.trustees qs on.past.replies first.sides marks) (sym still) known.in_turn
+
     -- it is at work
     begun_on : (w : Work) → IsWork s.named s.trustees command (latest old.moment reading) [] w → left_of w.todo ≢ []
-        → IsOn view s (record (with_command command reading (record old { intake = intake })) { work = Some w }) first later books
+        → IsOn view s marks (record (with_command command reading (record old { intake = intake })) { work = Some w }) first later books
     begun_on w is_work left = record {
       past = record on.past { begun = message.Command command ∷ []; readings = on.past.readings ++ reading ∷ [] };
       input = input_more;
@@ -228,6 +241,8 @@ module _ {D : Type 0} (view : D → StoreView) (s : Setting) (first now : Sessio
       client = record {
         was = known.was;
         answered = answered_still;
+        in_turn = in_turn_still;
+        was_is = known.was_is;
         asked = [];
         asks = known.asks w.asking.replies.items;
         at_work = (command, refl, is_work);
@@ -235,7 +250,7 @@ module _ {D : Type 0} (view : D → StoreView) (s : Setting) (first now : Sessio
     }
 
     -- memory was wanting for it
-    begun_lost : HasGivenUp view s (without_memory (with_command command reading (record old { intake = intake }))) first later books
+    begun_lost : HasGivenUp view s marks (without_memory (with_command command reading (record old { intake = intake }))) first later books
     begun_lost = record {
       past = record on.past { begun = message.Command command ∷ []; readings = on.past.readings ++ reading ∷ [] };
       input = input_more;
@@ -244,6 +259,9 @@ module _ {D : Type 0} (view : D → StoreView) (s : Setting) (first now : Sessio
       is_written = front_of first.output later.output on.past.written old.gathered _ output_still.is_written on.output.gathered_is;
       was = known.was;
       answered = answered_still;
+      in_turn = in_turn_still;
+      was_is = known.was_is;
+      few = omega arith;
       asked = [];
       others = questions_of s.named s.trustees command (latest_of 0 (on.past.readings ++ reading ∷ []));
       questions = sym (all_asked s (record on.past { begun = message.Command command ∷ []; readings = on.past.readings ++ reading ∷ [] }) command refl clock_more.once);
@@ -251,36 +269,38 @@ module _ {D : Type 0} (view : D → StoreView) (s : Setting) (first now : Sessio
     }
 
     pub command_taken : (new : Session) → length books.lanes.items ≡ s.trustees
-        → HasBegun view command s.trustees (with_command command reading (record old { intake = intake })) new books → IsGoing view s new.stopped new first later books
+        → HasBegun view command s.trustees (with_command command reading (record old { intake = intake })) new books → IsGoingOn view s marks new first later books
     command_taken new lanes h =
         elim h [
           | inl (w, is_work, left, e) ↦
-              goes_as view s first later books (record (with_command command reading (record old { intake = intake })) { work = Some w }) new e
-              (goes_on view s first later books (record (with_command command reading (record old { intake = intake })) { work = Some w }) running (begun_on w (is_work s.named) left))
+              none_marked view s marks first later books new
+              (goes_as view s marks first later books (record (with_command command reading (record old { intake = intake })) { work = Some w }) new e
+              (goes_on view s marks first later books (record (with_command command reading (record old { intake = intake })) { work = Some w }) running (begun_on w (is_work s.named) left)))
           | inr others ↦
               elim others [
                 | inl (w, is_work, none_left, f) ↦
-                    finished view s first later books (with_command command reading (record old { intake = intake }))
+                    finished_on view s marks first later books (with_command command reading (record old { intake = intake }))
                     (record on.past { begun = message.Command command ∷ []; readings = on.past.readings ++ reading ∷ [] }) idle running input_more clock_more output_still
-                    w command refl known.was answered_still [] (known.asks w.asking.replies.items) (is_work s.named) none_left lanes known.none new f
-                | inr e ↦ goes_as view s first later books (without_memory (with_command command reading (record old { intake = intake }))) new e begun_lost
+                    w command refl known.was answered_still in_turn_still known.was_is [] (known.asks w.asking.replies.items) (is_work s.named) none_left lanes known.none new f
+                | inr e ↦ none_marked view s marks first later books new
+                    (goes_as view s marks first later books (without_memory (with_command command reading (record old { intake = intake }))) new e begun_lost)
               ]
         ]
 
   -- by what the intake says
   pub fault_next : (fault : Fault) (intake : Intake) → unfed old.intake ≢ [] → Takes s.limit on.past.text (taken on.past) (next.Fault fault) intake → (new : Session)
-      → HasGathered (shown_of_fault fault) (record old { intake = intake }) new → IsGoing view s new.stopped new first now books
+      → HasGathered (shown_of_fault fault) (record old { intake = intake }) new → IsGoing view s marks new.stopped new first now books
   fault_next fault intake some t new h =
       fault_taken fault intake some (subst (λ ms. IsIntake s.limit on.past.text (ms ++ message.Fault fault ∷ []) intake) same t.is) new h
 
   pub command_next : (command : Command) (reading : ℕ) (later : SessionView) → later.input ≡ now.input → later.output ≡ now.output → Grows now.clock later.clock (reading ∷ [])
       → (intake : Intake) → unfed old.intake ≢ [] → Takes s.limit on.past.text (taken on.past) (next.Command command) intake → (new : Session) → length books.lanes.items ≡ s.trustees
-      → HasBegun view command s.trustees (with_command command reading (record old { intake = intake })) new books → IsGoing view s new.stopped new first later books
+      → HasBegun view command s.trustees (with_command command reading (record old { intake = intake })) new books → IsGoingOn view s marks new first later books
   command_next command reading later same_input same_output read intake some t new lanes h =
       command_taken command reading later same_input same_output read intake some
       (subst (λ ms. IsIntake s.limit on.past.text (ms ++ message.Command command ∷ []) intake) same t.is) new lanes h
 
-  pub more_next : (intake : Intake) → Takes s.limit on.past.text (taken on.past) next.More intake → IsOn view s (record old { intake = intake }) first now books
+  pub more_next : (intake : Intake) → Takes s.limit on.past.text (taken on.past) next.More intake → IsOn view s marks (record old { intake = intake }) first now books
   more_next intake t = record {
     past = on.past;
     input = record {
@@ -302,12 +322,14 @@ module _ {D : Type 0} (view : D → StoreView) (s : Setting) (first now : Sessio
       {W : Type 0} (n : Next) (later : SessionView) (intake : Intake) (new : Session) (clock clock_now : W) (went : Bool) → later.input ≡ now.input → later.output ≡ now.output
       → (clock_now ≡ clock → later.clock ≡ now.clock) → (unfed old.intake ≡ [] → n ≡ next.More) → Takes s.limit on.past.text (taken on.past) n intake
       → length books.lanes.items ≡ s.trustees
-      → HasMet view s.trustees n now.clock later.clock clock clock_now (record old { intake = intake }) new books went → IsGoing view s new.stopped new first later books
+      → HasMet view s.trustees n now.clock later.clock clock clock_now (record old { intake = intake }) new books went → IsGoingOn view s marks new first later books
   met (next.Command command) later intake new clock clock_now went same_input same_output same_clock none t lanes (e, (reading, read, begun)) =
       command_next command reading later same_input same_output read intake (λ empty. let no = none empty in absurd cc) t new lanes begun
   met (next.Fault fault) later intake new clock clock_now went same_input same_output same_clock none t lanes (e, gathered, same) =
-      seen_going view s new first books now later same_input (same_clock same) same_output new.stopped
-      (fault_next fault intake (λ empty. let no = none empty in absurd cc) t new gathered)
+      none_marked view s marks first later books new
+      (seen_going view s marks new first books now later same_input (same_clock same) same_output new.stopped
+      (fault_next fault intake (λ empty. let no = none empty in absurd cc) t new gathered))
   met next.More later intake new clock clock_now went same_input same_output same_clock none t lanes (e, is, same) =
-      seen_going view s new first books now later same_input (same_clock same) same_output new.stopped
-      (goes_as view s first now books (record old { intake = intake }) new is (goes_on view s first now books (record old { intake = intake }) running (more_next intake t)))
+      none_marked view s marks first later books new
+      (seen_going view s marks new first books now later same_input (same_clock same) same_output new.stopped
+      (goes_as view s marks first now books (record old { intake = intake }) new is (goes_on view s marks first now books (record old { intake = intake }) running (more_next intake t))))

@@ -3,7 +3,7 @@ use Rattle.std.proofs.Common.{◌≡◌, ◌≢◌, ℕ, inl, inr, ◌||◌, Boo
 use Rattle.std.specs.Prelude.{◌↔◌}
 use Rattle.tm_client.specs.declared.trust.Trust.{Trust}
 use Rattle.tm_client.specs.Clients.{IsClient}
-use Rattle.tm_asking.specs.Asking.{NoneCounts}
+use Rattle.tm_asking.specs.Asking.{NoneCounts, sides_of}
 use Rattle.mc_model.specs.declared.message.Command.{Command}
 use Rattle.mc_route.specs.Plans.{frame_of}
 use Rattle.mc_next.specs.declared.piece.Piece.{Piece}
@@ -12,7 +12,7 @@ use Rattle.mc_next.specs.declared.work.Work.{Work}
 use Rattle.mc_next.specs.Parts.{StoreView}
 use Rattle.mc_next.specs.Clients.{StoreBooks}
 use Rattle.mc_next.specs.Runs.{Setting, SessionView}
-use Rattle.mc_next.specs.Sessions.{IsOn, IsGoing, IsOf, seen}
+use Rattle.mc_next.specs.Sessions.{IsOn, IsGoing, IsGoingOn, IsOf, seen}
 use Rattle.mc_next.specs.Works.{left_of, IsFullFor, KeepsClient, StoreState, HasAskedPieces, HasTakenReplies}
 use Rattle.mc_next.specs.Deeds.{HasFinished, RestsAtWork}
 use Rattle.mc_next.specs.Steps.{NextIsFull, HasTakenSome, HasWorkedOn, IsCaused}
@@ -79,21 +79,25 @@ module _ {D : Type 0} (view : D → StoreView) (trusts : List Trust) (old : Sess
       rests counts e = rests_with (counting (left_of w_new.todo) refl counts e) e
 
   -- the session goes on
-  module _ (s : Setting) (first : SessionView) (left readings written : Option (List ℕ)) (running : old.stopped ≡ None) (of : IsOf s trusts (length books.lanes.items))
-      (on : IsOn view s (record old { work = Some w }) first (seen view books left readings written) books) where
-    pub goes_at_work : IsGoing view s old.stopped (record old { work = Some w_new }) first (seen view books_new left readings written) books_new
+  module _ (s : Setting) (marks : List (ℕ → StoreView)) (first : SessionView) (left readings written : Option (List ℕ)) (running : old.stopped ≡ None) (of : IsOf s trusts (length books.lanes.items))
+      (on : IsOn view s marks (record old { work = Some w }) first (seen view books left readings written) books) where
+    pub goes_at_work : IsGoing view s marks old.stopped (record old { work = Some w_new }) first (seen view books_new left readings written) books_new
     goes_at_work =
-        goes_on view s first (seen view books_new left readings written) books_new (record old { work = Some w_new }) running
-        (seen_on view s (record old { work = Some w_new }) first books_new (seen view books left readings written) (seen view books_new left readings written) refl refl refl
-        (work_on view s first (seen view books left readings written) trusts old w w_mid w_new books books_mid books_new of asks.0 asks.1 asks.3 takes on))
+        goes_on view s marks first (seen view books_new left readings written) books_new (record old { work = Some w_new }) running
+        (seen_on view s marks (record old { work = Some w_new }) first books_new (seen view books left readings written) (seen view books_new left readings written) refl refl refl
+        (work_on view s marks first (seen view books left readings written) trusts old w w_mid w_new books books_mid books_new of asks.0 asks.1 asks.3 takes on))
 
     pub goes_finished :
         old.work ≡ None → left_of w_new.todo ≡ [] → NoneCounts books_new → (new : Session) → HasFinished view w_new old new books_new
-        → IsGoing view s new.stopped new first (seen view books_new left readings written) books_new
-    goes_finished idle none_left none new f =
-        seen_going view s new first books_new (seen view books left readings written) (seen view books_new left readings written) refl refl refl new.stopped
-        (work_finished view s first (seen view books left readings written) trusts old w w_mid w_new books books_mid books_new of asks.0 asks.1 asks.3 takes on idle running none_left
-        (keeps_both.many ∙ sym of.trustees_are) none new f)
+        → IsGoingOn view s marks new first (seen view books_new left readings written) books_new
+    goes_finished idle none_left none new f = (
+      sides_of view books_new ∷ [],
+      inr (refl, none),
+      seen_going view s (marks ++ sides_of view books_new ∷ []) new first books_new (seen view books left readings written) (seen view books_new left readings written) refl refl refl
+          new.stopped
+          (work_finished view s marks first (seen view books left readings written) trusts old w w_mid w_new books books_mid books_new of asks.0 asks.1 asks.3 takes on idle running none_left
+          (keeps_both.many ∙ sym of.trustees_are) none new f),
+    )
 
   -- what finishing did
   module _ (command : Command) (frame : w.frame ≡ frame_of command) (idle : old.work ≡ None) (running : old.stopped ≡ None) (new : Session)

@@ -4,7 +4,7 @@ use Rattle.std.specs.Prelude.{map}
 use Rattle.std.specs.List.{AllByRecursion}
 use Rattle.std.proofs.lemmas.List.{map-append, length-map}
 use Rattle.tm_client.specs.declared.trust.Trust.{Trust}
-use Rattle.tm_asking.specs.Asking.{IsAsking, NoneCounts}
+use Rattle.tm_asking.specs.Asking.{IsAsking, NoneCounts, sides_of}
 use Rattle.mc_model.specs.declared.message.Command.{Command}
 use Rattle.mc_model.specs.declared.reply.ShardReply.TheVariants.{Missing}
 use Rattle.mc_next.specs.declared.piece.Piece.{Piece}
@@ -171,10 +171,10 @@ module _ {D : Type 0} (view : D → StoreView) where
           omega (arith, joined, mapped, one, before);
     }
 
-module _ {D : Type 0} (view : D → StoreView) (s : Setting) (first now : SessionView) (trusts : List Trust) (old : Session) (w w_mid w_new : Work)
+module _ {D : Type 0} (view : D → StoreView) (s : Setting) (marks : List (ℕ → StoreView)) (first now : SessionView) (trusts : List Trust) (old : Session) (w w_mid w_new : Work)
     (books books_mid books_new : StoreBooks D) (of : IsOf s trusts (length books.lanes.items)) (pieces : List Piece)
     (left : left_of w.todo ≡ pieces ++ left_of w_mid.todo) (asks : HasAskedPieces view trusts pieces w w_mid books books_mid)
-    (takes : HasTakenReplies view w_mid w_new books_mid books_new) (on : IsOn view s (record old { work = Some w }) first now books) where
+    (takes : HasTakenReplies view w_mid w_new books_mid books_new) (on : IsOn view s marks (record old { work = Some w }) first now books) where
   same_question : question_of (named_by trusts) (length books.lanes.items) ≡ question_of s.named s.trustees
   same_question = ap (λ named. question_of named (length books.lanes.items)) (sym of.names) ∙ ap (λ n. question_of s.named n) (sym of.trustees_are)
 
@@ -191,7 +191,7 @@ module _ {D : Type 0} (view : D → StoreView) (s : Setting) (first now : Sessio
       w_new takes.frame takes.todo takes.many takes.replies
 
   -- it is at work still
-  pub work_on : IsOn view s (record old { work = Some w_new }) first now books_new
+  pub work_on : IsOn view s marks (record old { work = Some w_new }) first now books_new
   work_on = record {
     past = on.past;
     input = on.input;
@@ -200,6 +200,8 @@ module _ {D : Type 0} (view : D → StoreView) (s : Setting) (first now : Sessio
     client = record {
       was = on.client.was;
       answered = on.client.answered;
+      in_turn = on.client.in_turn;
+      was_is = on.client.was_is;
       asked = on.client.asked ++ map (question_of s.named s.trustees) pieces;
       asks = asks_more;
       at_work = (on.client.at_work.0, on.client.at_work.1, is_more);
@@ -209,7 +211,7 @@ module _ {D : Type 0} (view : D → StoreView) (s : Setting) (first now : Sessio
   -- or all of it was asked and replied, and it is finished
   pub work_finished :
       old.work ≡ None → old.stopped ≡ None → left_of w_new.todo ≡ [] → length books_new.lanes.items ≡ s.trustees → NoneCounts books_new → (new : Session)
-      → HasFinished view w_new old new books_new → IsGoing view s new.stopped new first now books_new
+      → HasFinished view w_new old new books_new → IsGoing view s (marks ++ sides_of view books_new ∷ []) new.stopped new first now books_new
   work_finished idle running none_left lanes none new f =
-      finished view s first now books_new old on.past idle running on.input on.clock on.output w_new on.client.at_work.0 on.client.at_work.1 on.client.was
-      on.client.answered (on.client.asked ++ map (question_of s.named s.trustees) pieces) asks_more is_more none_left lanes none new f
+      finished view s marks first now books_new old on.past idle running on.input on.clock on.output w_new on.client.at_work.0 on.client.at_work.1 on.client.was
+      on.client.answered on.client.in_turn on.client.was_is (on.client.asked ++ map (question_of s.named s.trustees) pieces) asks_more is_more none_left lanes none new f

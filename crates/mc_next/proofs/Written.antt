@@ -16,6 +16,7 @@ use Rattle.mc_next.specs.Deeds.{HasWritten}
 use Rattle.mc_next.proofs.Streams.{grows_more}
 use Rattle.mc_next.proofs.Answered.{all_asked}
 use Rattle.mc_next.proofs.Finished.{front_of, goes_on, goes_as}
+use Rattle.mc_next.proofs.Marked.{few_at_work}
 use Rattle.mc_next.proofs.Took.{idle_taken}
 
 -- behind what was written a front of what was gathered
@@ -42,7 +43,7 @@ module _ {D : Type 0} (view : D → StoreView) (s : Setting) (p : Past) (before 
         ∙ sym (all_asked s p command begun once),
   )
 
-module _ {D : Type 0} (view : D → StoreView) (s : Setting) (first now later : SessionView) (books : StoreBooks D) (old : Session) (on : IsOn view s old first now books)
+module _ {D : Type 0} (view : D → StoreView) (s : Setting) (marks : List (ℕ → StoreView)) (first now later : SessionView) (books : StoreBooks D) (old : Session) (on : IsOn view s marks old first now books)
     (same_input : later.input ≡ now.input) (same_clock : later.clock ≡ now.clock) where
   input_still : HasCome s.limit on.past.text (taken on.past) old.intake old.quit old.at_end old.too_much first.input later.input
   input_still = subst (λ told. HasCome s.limit on.past.text (taken on.past) old.intake old.quit old.at_end old.too_much first.input told) (sym same_input) on.input
@@ -50,7 +51,7 @@ module _ {D : Type 0} (view : D → StoreView) (s : Setting) (first now later : 
   clock_still : HasTicked on.past.readings (taken on.past) old.moment first.clock later.clock
   clock_still = subst (λ told. HasTicked on.past.readings (taken on.past) old.moment first.clock told) (sym same_clock) on.clock
 
-  all_written : Grows now.output later.output old.gathered → IsOn view s (record old { gathered = [] }) first later books
+  all_written : Grows now.output later.output old.gathered → IsOn view s marks (record old { gathered = [] }) first later books
   all_written g = record {
     past = record on.past { written = on.past.written ++ old.gathered };
     input = input_still;
@@ -60,10 +61,10 @@ module _ {D : Type 0} (view : D → StoreView) (s : Setting) (first now later : 
       is_written = grows_more first.output now.output later.output on.past.written old.gathered on.output.is_written g;
       gathered_is = append-nil (on.past.written ++ old.gathered) ∙ on.output.gathered_is;
     };
-    client = record { was = on.client.was; answered = on.client.answered; asked = on.client.asked; asks = on.client.asks; at_work = on.client.at_work };
+    client = record { was = on.client.was; answered = on.client.answered; in_turn = on.client.in_turn; was_is = on.client.was_is; asked = on.client.asked; asks = on.client.asks; at_work = on.client.at_work };
   }
 
-  part_written : GrowsByFront now.output later.output old.gathered → HasGivenUp view s (record old { stopped = Some WriteFault }) first later books
+  part_written : GrowsByFront now.output later.output old.gathered → HasGivenUp view s marks (record old { stopped = Some WriteFault }) first later books
   part_written g =
       let (others, questions) = others_of view s on.past first.sides books old.moment on.client.asked old.work on.client.at_work on.clock.once on.clock.latest_is in record {
         past = on.past;
@@ -73,21 +74,24 @@ module _ {D : Type 0} (view : D → StoreView) (s : Setting) (first now later : 
         is_written = front_more first.output now.output later.output on.past.written old.gathered _ on.output.is_written g on.output.gathered_is;
         was = on.client.was;
         answered = on.client.answered;
+        in_turn = on.client.in_turn;
+        was_is = on.client.was_is;
+        few = few_at_work s on.past.begun old.moment on.client.asked old.work books on.client.at_work;
         asked = on.client.asked;
         others = others;
         questions = questions;
         asks = on.client.asks;
       }
 
-  pub written : (faults faults_now : ℕ) (running : old.stopped ≡ None) (new : Session) → HasWritten now.output later.output faults faults_now old new → IsGoing view s new.stopped new first later books
+  pub written : (faults faults_now : ℕ) (running : old.stopped ≡ None) (new : Session) → HasWritten now.output later.output faults faults_now old new → IsGoing view s marks new.stopped new first later books
   written faults faults_now running new h =
       elim h [
-        | inl (g, e, calm) ↦ goes_as view s first later books (record old { gathered = [] }) new e (goes_on view s first later books (record old { gathered = [] }) running (all_written g))
-        | inr (g, e, rose) ↦ goes_as view s first later books (record old { stopped = Some WriteFault }) new e (part_written g)
+        | inl (g, e, calm) ↦ goes_as view s marks first later books (record old { gathered = [] }) new e (goes_on view s marks first later books (record old { gathered = [] }) running (all_written g))
+        | inr (g, e, rose) ↦ goes_as view s marks first later books (record old { stopped = Some WriteFault }) new e (part_written g)
       ]
 
   -- memory was wanting, and nothing was done
-  pub lost : later.output ≡ now.output → HasGivenUp view s (record old { stopped = Some NoMemory }) first later books
+  pub lost : later.output ≡ now.output → HasGivenUp view s marks (record old { stopped = Some NoMemory }) first later books
   lost same_output =
       let (others, questions) = others_of view s on.past first.sides books old.moment on.client.asked old.work on.client.at_work on.clock.once on.clock.latest_is in record {
         past = on.past;
@@ -97,6 +101,9 @@ module _ {D : Type 0} (view : D → StoreView) (s : Setting) (first now later : 
         is_written = front_of first.output later.output on.past.written old.gathered _ (subst (λ told. Grows first.output told on.past.written) (sym same_output) on.output.is_written) on.output.gathered_is;
         was = on.client.was;
         answered = on.client.answered;
+        in_turn = on.client.in_turn;
+        was_is = on.client.was_is;
+        few = few_at_work s on.past.begun old.moment on.client.asked old.work books on.client.at_work;
         asked = on.client.asked;
         others = others;
         questions = questions;

@@ -1,5 +1,5 @@
 -- What a session has done of a stream, by what the client's sides at the trustees tell and by what its devices tell.
-use Rattle.std.specs.Prelude.{◌≡◌, ◌≢◌, ℕ, ◌<◌, ◌≤◌, true, false, List, [], ◌++◌, length, take, Option, Some}
+use Rattle.std.specs.Prelude.{◌≡◌, ◌≢◌, ℕ, ◌<◌, ◌≤◌, true, false, List, [], ◌∷◌, ◌++◌, length, take, Option, Some}
 use Rattle.std.specs.List.{AllZip, flat_map}
 use Rattle.tm_base.specs.Visible.{Grows}
 use Rattle.mc_model.specs.declared.message.Message.{Message}
@@ -131,3 +131,37 @@ HasRun s TooMuch before after = HasAnswered s before after (λ text messages res
 HasRun s ReadFault before after = HasAnswered s before after (λ text messages rest. (has_quit messages ≡ false) × (length text ≤ s.limit))
 HasRun s WriteFault before after = HasStopped s before after
 HasRun s NoMemory before after = HasStopped s before after
+
+-- ---- one command after another
+
+-- the sides at the last of some marks, or before the first
+abbrev pub last_of : (ℕ → StoreView) → List (ℕ → StoreView) → ℕ → StoreView
+last_of before [] = before
+last_of before (mark ∷ marks) = last_of mark marks
+
+-- Each command asked its questions when the sides stood as the command before had left them, and all were replied: the marks are the client's
+-- sides at the end of each.
+abbrev pub AreAskedInTurn : ℕ → List (List StoreQuestion) → List (List ShardReply) → (ℕ → StoreView) → List (ℕ → StoreView) → Type 0
+AreAskedInTurn trustees [] [] before [] = Unit {0}
+AreAskedInTurn trustees (qs ∷ questions) (rs ∷ replies) before (mark ∷ marks) =
+    ((t : ℕ) → t < trustees → HasAskedAll Missing (requests_at t qs) (replies_at t qs rs) (before t) (mark t)) × AreAskedInTurn trustees questions replies mark marks
+AreAskedInTurn trustees _ _ before _ = ⊥
+
+-- so it is in a whole run
+abbrev pub WholeInTurn : (s : Setting) → List (ℕ → StoreView) → (messages : List Message) (before after : SessionView) → IsWholeRun s messages before after → Type 0
+WholeInTurn s marks messages before after run = AreAskedInTurn s.trustees (asked_for s messages run.readings) run.replies before.sides marks
+
+-- and in one as far as it came, of which one command at most was taken and not answered
+abbrev pub BrokenInTurn : (s : Setting) → List (ℕ → StoreView) → (messages : List Message) (before after : SessionView) → IsBrokenRun s messages before after → Type 0
+BrokenInTurn s marks messages before after run =
+    AreAskedInTurn s.trustees (asked_for s run.answered run.readings) run.replies before.sides marks × (length (commands_of run.others) ≤ 1)
+
+-- so it is in the run of a session that ended so
+abbrev pub IsInTurn : (s : Setting) → List (ℕ → StoreView) → (ended : Ended) (before after : SessionView) → HasRun s ended before after → Type 0
+IsInTurn s marks AtEnd before after has = WholeInTurn s marks (until_quit has.messages) before after has.run
+IsInTurn s marks Inside before after has = WholeInTurn s marks (until_quit has.messages) before after has.run
+IsInTurn s marks Quit before after has = WholeInTurn s marks (until_quit has.messages) before after has.run
+IsInTurn s marks TooMuch before after has = WholeInTurn s marks (until_quit has.messages) before after has.run
+IsInTurn s marks ReadFault before after has = WholeInTurn s marks (until_quit has.messages) before after has.run
+IsInTurn s marks WriteFault before after has = BrokenInTurn s marks (until_quit has.messages) before after has.run
+IsInTurn s marks NoMemory before after has = BrokenInTurn s marks (until_quit has.messages) before after has.run

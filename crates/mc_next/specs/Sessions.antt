@@ -19,7 +19,7 @@ use Rattle.mc_next.specs.declared.ended.Ended.TheVariants.{AtEnd, Quit, Inside, 
 use Rattle.mc_next.specs.declared.work.Work.{Work}
 use Rattle.mc_next.specs.declared.session.Session.{Session}
 use Rattle.mc_next.specs.Parts.{StoreQuestion, StoreView}
-use Rattle.mc_next.specs.Runs.{Setting, SessionView, CameSoFar, CameWhole, HaveReplies, WritesFront, asked_for, all_of, HasRun}
+use Rattle.mc_next.specs.Runs.{Setting, SessionView, CameSoFar, CameWhole, HaveReplies, WritesFront, asked_for, all_of, HasRun, AreAskedInTurn, IsInTurn, last_of}
 use Rattle.tm_client.specs.declared.trust.Trust.{Trust}
 use Rattle.mc_next.specs.Works.{named_by, IsWork}
 use Rattle.mc_next.specs.Clients.{StoreBooks}
@@ -82,10 +82,14 @@ abbrev pub IsAtWork : {D : Type 0} → Setting → List Message → ℕ → List
 IsAtWork s begun moment asked None books = (begun ≡ []) × (asked ≡ []) × NoneCounts books
 IsAtWork s begun moment asked (Some w) books = (command : Command) × (begun ≡ message.Command command ∷ []) × IsWork s.named s.trustees command moment asked w
 
--- behind the answered messages those questions of the command at work were asked of the client that are not left
-pub record HasAskedOn {D : Type 0} (view : D → StoreView) (s : Setting) (p : Past) (moment : ℕ) (work : Option Work) (before : ℕ → StoreView) (books : StoreBooks D) : Type 0 where
+-- Behind the answered messages those questions of the command at work were asked of the client that are not left. Commands were asked in turn:
+-- the marks are the client's sides at the end of each that was answered, and so they stood when that at work began.
+pub record HasAskedOn {D : Type 0} (view : D → StoreView) (s : Setting) (marks : List (ℕ → StoreView)) (p : Past) (moment : ℕ) (work : Option Work)
+    (before : ℕ → StoreView) (books : StoreBooks D) : Type 0 where
   pub was : ℕ → StoreView
   pub answered : HasReplied s p before was
+  pub in_turn : AreAskedInTurn s.trustees (asked_for s p.answered p.readings) p.replies before marks
+  pub was_is : was ≡ last_of before marks
   pub asked : List StoreQuestion
   pub asks : AsksFor view was asked work books
   pub at_work : IsAtWork s p.begun moment asked work books
@@ -95,17 +99,17 @@ abbrev pub IsNotOver : Session → Type 0
 IsNotOver session = session.work ≡ None → session.gathered ≡ []
     → (session.quit ≡ false) × (session.at_end ≡ false) × (session.too_much ≡ true → unfed session.intake ≢ [])
 
--- so far, without a fault
-pub record IsOn {D : Type 0} (view : D → StoreView) (s : Setting) (session : Session) (first now : SessionView) (books : StoreBooks D) : Type 0 where
+-- so far, without a fault, and with these marks
+pub record IsOn {D : Type 0} (view : D → StoreView) (s : Setting) (marks : List (ℕ → StoreView)) (session : Session) (first now : SessionView) (books : StoreBooks D) : Type 0 where
   pub past : Past
   pub input : HasCome s.limit past.text (taken past) session.intake session.quit session.at_end session.too_much first.input now.input
   pub clock : HasTicked past.readings (taken past) session.moment first.clock now.clock
   pub output : HasShown s past session.gathered first.output now.output
-  pub client : HasAskedOn view s past session.moment session.work first.sides books
+  pub client : HasAskedOn view s marks past session.moment session.work first.sides books
 
 -- after a fault of the sink or for want of memory: of what the answered messages show a front is written, and of the questions of the
--- message that was given up the first were asked
-pub record HasGivenUp {D : Type 0} (view : D → StoreView) (s : Setting) (session : Session) (first now : SessionView) (books : StoreBooks D) : Type 0 where
+-- message that was given up, one at most, the first were asked
+pub record HasGivenUp {D : Type 0} (view : D → StoreView) (s : Setting) (marks : List (ℕ → StoreView)) (session : Session) (first now : SessionView) (books : StoreBooks D) : Type 0 where
   pub past : Past
   pub input : HasCome s.limit past.text (taken past) session.intake session.quit session.at_end session.too_much first.input now.input
   pub clock : HasTicked past.readings (taken past) session.moment first.clock now.clock
@@ -113,6 +117,9 @@ pub record HasGivenUp {D : Type 0} (view : D → StoreView) (s : Setting) (sessi
   pub is_written : WritesFront first.output now.output (rendered (shown_of_all past.answered past.replies))
   pub was : ℕ → StoreView
   pub answered : HasReplied s past first.sides was
+  pub in_turn : AreAskedInTurn s.trustees (asked_for s past.answered past.readings) past.replies first.sides marks
+  pub was_is : was ≡ last_of first.sides marks
+  pub few : length (commands_of past.begun) ≤ 1
   pub asked : List StoreQuestion
   pub others : List StoreQuestion
   pub questions : all_of (asked_for s past.answered past.readings) ++ (asked ++ others) ≡ all_of (asked_for s (taken past) past.readings)
@@ -120,31 +127,41 @@ pub record HasGivenUp {D : Type 0} (view : D → StoreView) (s : Setting) (sessi
 
 -- what holds of a session that stopped for this reason, in the step in which it did; a failed read comes where all that came is answered and
 -- written
-abbrev pub HasStoppedFor : {D : Type 0} → (D → StoreView) → Setting → Ended → Session → SessionView → SessionView → StoreBooks D → Type 0
-HasStoppedFor view s WriteFault session first now books = HasGivenUp view s session first now books
-HasStoppedFor view s NoMemory session first now books = HasGivenUp view s session first now books
-HasStoppedFor view s ReadFault session first now books =
-    IsOn view s session first now books × (session.work ≡ None) × (session.gathered ≡ []) × (unfed session.intake ≡ []) × (session.quit ≡ false)
+abbrev pub HasStoppedFor : {D : Type 0} → (D → StoreView) → Setting → List (ℕ → StoreView) → Ended → Session → SessionView → SessionView → StoreBooks D → Type 0
+HasStoppedFor view s marks WriteFault session first now books = HasGivenUp view s marks session first now books
+HasStoppedFor view s marks NoMemory session first now books = HasGivenUp view s marks session first now books
+HasStoppedFor view s marks ReadFault session first now books =
+    IsOn view s marks session first now books × (session.work ≡ None) × (session.gathered ≡ []) × (unfed session.intake ≡ []) × (session.quit ≡ false)
     × (session.too_much ≡ false)
-HasStoppedFor view s _ session first now books = ⊥
+HasStoppedFor view s marks _ session first now books = ⊥
 
 -- what holds of a session by whether it stopped
-abbrev pub IsGoing : {D : Type 0} → (D → StoreView) → Setting → Option Ended → Session → SessionView → SessionView → StoreBooks D → Type 0
-IsGoing view s None session first now books = IsOn view s session first now books
-IsGoing view s (Some why) session first now books = HasStoppedFor view s why session first now books
+abbrev pub IsGoing : {D : Type 0} → (D → StoreView) → Setting → List (ℕ → StoreView) → Option Ended → Session → SessionView → SessionView → StoreBooks D → Type 0
+IsGoing view s marks None session first now books = IsOn view s marks session first now books
+IsGoing view s marks (Some why) session first now books = HasStoppedFor view s marks why session first now books
+
+-- no command was answered; or one was, at whose end the client's sides stood so, and no request of it counted
+abbrev pub HasMarked : {D : Type 0} → (D → StoreView) → StoreBooks D → List (ℕ → StoreView) → Type 0
+HasMarked view books more = (more ≡ []) ⊎ ((more ≡ sides_of view books ∷ []) × NoneCounts books)
+
+-- what holds of a session behind these marks, and behind that of a command that was answered just now, if one was
+abbrev pub IsGoingOn : {D : Type 0} → (D → StoreView) → Setting → List (ℕ → StoreView) → Session → SessionView → SessionView → StoreBooks D → Type 0
+IsGoingOn view s marks session first now books =
+    (more : List (ℕ → StoreView)) × HasMarked view books more × IsGoing view s (marks ++ more) session.stopped session first now books
 
 -- a session that stopped and is not over waits for answers
 abbrev pub IsNotDone : {D : Type 0} → Option Ended → Session → StoreBooks D → Type 0
 IsNotDone None session books = IsNotOver session
 IsNotDone (Some why) session books = ¬ (NoneCounts books)
 
-abbrev pub Holds : {D : Type 0} → (D → StoreView) → Setting → Option Ended → Session → SessionView → SessionView → StoreBooks D → Type 0
-Holds view s (Some ended) session first now books = HasRun s ended first now × NoneCounts books
-Holds view s None session first now books = IsGoing view s session.stopped session first now books × IsNotDone session.stopped session books
+abbrev pub Holds : {D : Type 0} → (D → StoreView) → Setting → List (ℕ → StoreView) → Option Ended → Session → SessionView → SessionView → StoreBooks D → Type 0
+Holds view s marks (Some ended) session first now books = (run : HasRun s ended first now) × IsInTurn s marks ended first now run × NoneCounts books
+Holds view s marks None session first now books = IsGoing view s marks session.stopped session first now books × IsNotDone session.stopped session books
 
--- What holds of a session between two steps, by what client and devices told before its first step, and tell now.
-abbrev pub IsSession : {D : Type 0} → (D → StoreView) → Setting → Session → SessionView → SessionView → StoreBooks D → Type 0
-IsSession view s session first now books = Holds view s session.over session first now books
+-- What holds of a session between two steps, by what client and devices told before its first step, and tell now, and by the marks: the client's
+-- sides at the end of each command that was answered, in order.
+abbrev pub IsSession : {D : Type 0} → (D → StoreView) → Setting → List (ℕ → StoreView) → Session → SessionView → SessionView → StoreBooks D → Type 0
+IsSession view s marks session first now books = Holds view s marks session.over session first now books
 
 -- a setting is that of these trusts, one trustee's after another's, of so many trustees
 pub record IsOf (s : Setting) (trusts : List Trust) (trustees : ℕ) : Type 0 where

@@ -6,7 +6,7 @@ ghost use Rattle.tm_client.specs.Clients.{IsClient};
 ghost use Rattle.tm_asking.specs.declared.turning.Turned.{Turned};
 ghost use Rattle.tm_asking.specs.declared.turning.Turned.TheVariants as looked;
 ghost use Rattle.tm_asking.specs.Turning.{IsAtTables, TurnsBelow};
-ghost use Rattle.mc_next.specs.Parts.{store_kind};
+ghost use Rattle.mc_next.specs.Parts.{StoreView, store_kind};
 ghost use Rattle.mc_model.specs.declared.message.Message.{Message};
 ghost use Rattle.mc_intake.specs.Intake.{unfed, IsIntake};
 ghost use Rattle.mc_next.specs.Clients.{AreStoreTrusts};
@@ -14,7 +14,7 @@ ghost use Rattle.mc_next.specs.declared.ended.Ended.{Ended};
 ghost use Rattle.mc_next.specs.declared.work.Work.{Work};
 ghost use Rattle.mc_next.specs.Works.{KeepsClient, StoreState};
 ghost use Rattle.mc_next.specs.Runs.{Setting, SessionView};
-ghost use Rattle.mc_next.specs.Sessions.{IsOn, IsGoing, IsNotOver, IsNotDone, HasGivenUp, seen, IsOf};
+ghost use Rattle.mc_next.specs.Sessions.{IsOn, IsGoing, IsGoingOn, IsNotOver, IsNotDone, HasGivenUp, seen, IsOf};
 ghost use Rattle.mc_next.specs.Deeds.{told_by, HasWritten, HasReadOnce, HasGoneIdle, RestsAtWork};
 ghost use Rattle.mc_next.specs.Steps.{shown_by, before_of, IsWaiting, AllPending, NextIsFull, MayDoNothing, HasTakenSome, HasWorkedOn, HasAdvanced, KeepsMarks, MayRead, AsksNothing, AsksOrTurns, IsDraining, IsCaused};
 
@@ -97,7 +97,7 @@ impl Session {
         sink: &mut B,
         clock: &mut W,
     )
-        requires on { (s : Setting) × (first : SessionView) × IsOn P.theory.client_view s self.old first
+        requires on { (s : Setting) × (marks : List (ℕ → StoreView)) × (first : SessionView) × IsOn P.theory.client_view s marks self.old first
             (seen P.theory.client_view client.now.books (A.left source.old) (W.readings clock.old) (B.written sink.old)) client.now.books }
         requires client { (openings : ℕ → StoreState) × IsClient P.theory.client_view openings client.now.books }
         requires many { trustees ≡ length client.now.books.lanes.items }
@@ -106,9 +106,9 @@ impl Session {
         requires not_over { IsNotOver self.old }
         ensures did { HasGoneIdle (A.left source.old) (A.left source.new) (A.faults source.old) (A.faults source.new)
             (B.written sink.old) (B.written sink.new) (B.faults sink.old) (B.faults sink.new) source.old source.new sink.old sink.new clock.old clock.new self.old self.new }
-        ensures goes { (s : Setting) (first : SessionView) → s.trustees ≡ trustees
-            → IsOn P.theory.client_view s self.old first (seen P.theory.client_view client.now.books (A.left source.old) (W.readings clock.old) (B.written sink.old)) client.now.books
-            → IsGoing P.theory.client_view s self.new.stopped self.new first (seen P.theory.client_view client.now.books (A.left source.new) (W.readings clock.new) (B.written sink.new)) client.now.books }
+        ensures goes { (s : Setting) (marks : List (ℕ → StoreView)) (first : SessionView) → s.trustees ≡ trustees
+            → IsOn P.theory.client_view s marks self.old first (seen P.theory.client_view client.now.books (A.left source.old) (W.readings clock.old) (B.written sink.old)) client.now.books
+            → IsGoingOn P.theory.client_view s marks self.new first (seen P.theory.client_view client.now.books (A.left source.new) (W.readings clock.new) (B.written sink.new)) client.now.books }
     {
         if self.gathered.len() >= FULL {
             self.write(sink);
@@ -140,10 +140,10 @@ impl Session {
         requires many { trustees ≡ length client.old.books.lanes.items }
         requires trusts { AreStoreTrusts trustees client.old.books trusts.now }
         requires client { (openings : ℕ → StoreState) × IsClient P.theory.client_view openings client.old.books }
-        requires on { (s : Setting) × (first : SessionView) × (now : SessionView) × IsOf s trusts.now trustees × IsOn P.theory.client_view s (record self.old { work = Some work }) first now client.old.books }
-        ensures goes { (s : Setting) (first : SessionView) (left readings written : Option (List ℕ)) → IsOf s trusts.now trustees
-            → IsOn P.theory.client_view s (record self.old { work = Some work }) first (seen P.theory.client_view client.old.books left readings written) client.old.books
-            → IsGoing P.theory.client_view s self.new.stopped self.new first (seen P.theory.client_view client.new.books left readings written) client.new.books }
+        requires on { (s : Setting) × (marks : List (ℕ → StoreView)) × (first : SessionView) × (now : SessionView) × IsOf s trusts.now trustees × IsOn P.theory.client_view s marks (record self.old { work = Some work }) first now client.old.books }
+        ensures goes { (s : Setting) (marks : List (ℕ → StoreView)) (first : SessionView) (left readings written : Option (List ℕ)) → IsOf s trusts.now trustees
+            → IsOn P.theory.client_view s marks (record self.old { work = Some work }) first (seen P.theory.client_view client.old.books left readings written) client.old.books
+            → IsGoingOn P.theory.client_view s marks self.new first (seen P.theory.client_view client.new.books left readings written) client.new.books }
         ensures moved { (result ≡ true) → HasWorkedOn (record self.old { work = Some work }) self.new client.old.books client.new.books }
         ensures rests { (result ≡ false) → (client.new ≡ client.old) × RestsAtWork work self.old self.new client.new.books }
         ensures cause { (reads writes : ℕ) → IsCaused self.new.stopped reads reads writes writes }
@@ -183,9 +183,9 @@ impl Session {
         ensures looks { (result ≡ false) → TurnsBelow P.theory store_kind (length tables.old) looked.Pending tables.old client.old.books tables.new client.new.books }
         ensures turns { (told : Turned) × TurnsBelow P.theory store_kind (length tables.old) told tables.old client.old.books tables.new client.new.books }
         ensures keeps { KeepsMarks client.old.books client.new.books }
-        ensures goes { (s : Setting) (first : SessionView) (left readings : Option (List ℕ))
-            → IsOn P.theory.client_view s self.old first (seen P.theory.client_view client.old.books left readings (B.written sink.old)) client.old.books
-            → IsGoing P.theory.client_view s self.new.stopped self.new first (seen P.theory.client_view client.new.books left readings (B.written sink.new)) client.new.books }
+        ensures goes { (s : Setting) (marks : List (ℕ → StoreView)) (first : SessionView) (left readings : Option (List ℕ))
+            → IsOn P.theory.client_view s marks self.old first (seen P.theory.client_view client.old.books left readings (B.written sink.old)) client.old.books
+            → IsGoing P.theory.client_view s marks self.new.stopped self.new first (seen P.theory.client_view client.new.books left readings (B.written sink.new)) client.new.books }
         ensures home { (openings : ℕ → StoreState) → IsAtTables P.theory openings tables.old client.old.books → IsAtTables P.theory openings tables.new client.new.books }
     {
         if let Turned::Moved = turn_where_counting(client, tables) {
@@ -201,9 +201,9 @@ impl Session {
     // After a fault or for want of memory: takes in what came, and drops it. Whether there was something.
     fn drop_replies<P: PairTable<Store>>(&mut self, client: &mut Client<Store, u64, P>) -> bool
         requires client { (openings : ℕ → StoreState) × IsClient P.theory.client_view openings client.old.books }
-        requires given { (s : Setting) × (first : SessionView) × (now : SessionView) × HasGivenUp P.theory.client_view s self.old first now client.old.books }
-        ensures given { (s : Setting) (first : SessionView) (now : SessionView) → HasGivenUp P.theory.client_view s self.old first now client.old.books
-            → HasGivenUp P.theory.client_view s self.new first now client.new.books }
+        requires given { (s : Setting) × (marks : List (ℕ → StoreView)) × (first : SessionView) × (now : SessionView) × HasGivenUp P.theory.client_view s marks self.old first now client.old.books }
+        ensures given { (s : Setting) (marks : List (ℕ → StoreView)) (first : SessionView) (now : SessionView) → HasGivenUp P.theory.client_view s marks self.old first now client.old.books
+            → HasGivenUp P.theory.client_view s marks self.new first now client.new.books }
         ensures took { (result ≡ true) → HasTakenSome client.old.books client.new.books }
         ensures rests { (result ≡ false) → (client.new ≡ client.old) × (self.new ≡ self.old) × (client.old.books.arrived.items ≡ []) }
         ensures session { self.new ≡ record self.old { work = self.new.work } }
@@ -225,7 +225,7 @@ impl Session {
     ) -> bool
         requires home { (openings : ℕ → StoreState) × IsAtTables P.theory openings tables.old client.old.books }
         requires counts { ¬ (NoneCounts client.old.books) }
-        requires given { (s : Setting) × (first : SessionView) × (now : SessionView) × HasGivenUp P.theory.client_view s self.old first now client.old.books }
+        requires given { (s : Setting) × (marks : List (ℕ → StoreView)) × (first : SessionView) × (now : SessionView) × HasGivenUp P.theory.client_view s marks self.old first now client.old.books }
         ensures moved { (result ≡ true) → HasAdvanced P.theory self.old self.new tables.old client.old.books tables.new client.new.books }
         ensures waits { (result ≡ false) → (self.new ≡ self.old) × AllPending P.theory.client_view client.old.books client.new.books × (¬ (NoneCounts client.new.books)) }
         ensures session { self.new ≡ record self.old { work = self.new.work } }
@@ -233,8 +233,8 @@ impl Session {
         ensures looks { (result ≡ false) → TurnsBelow P.theory store_kind (length tables.old) looked.Pending tables.old client.old.books tables.new client.new.books }
         ensures turns { AsksOrTurns P.theory tables.old client.old.books tables.new client.new.books }
         ensures keeps { KeepsMarks client.old.books client.new.books }
-        ensures given { (s : Setting) (first : SessionView) (now : SessionView) → HasGivenUp P.theory.client_view s self.old first now client.old.books
-            → HasGivenUp P.theory.client_view s self.new first now client.new.books }
+        ensures given { (s : Setting) (marks : List (ℕ → StoreView)) (first : SessionView) (now : SessionView) → HasGivenUp P.theory.client_view s marks self.old first now client.old.books
+            → HasGivenUp P.theory.client_view s marks self.new first now client.new.books }
         ensures home { (openings : ℕ → StoreState) → IsAtTables P.theory openings tables.old client.old.books → IsAtTables P.theory openings tables.new client.new.books }
     {
         if self.drop_replies(client) {
@@ -256,7 +256,7 @@ impl Session {
         requires idle { self.old.work ≡ None }
         requires trusts { AreStoreTrusts (length tables.old) client.old.books trusts.now }
         requires home { (openings : ℕ → StoreState) × IsAtTables P.theory openings tables.old client.old.books }
-        requires on { (s : Setting) × (first : SessionView) × (now : SessionView) × IsOf s trusts.now (length tables.old) × IsOn P.theory.client_view s (record self.old { work = Some work }) first now client.old.books }
+        requires on { (s : Setting) × (marks : List (ℕ → StoreView)) × (first : SessionView) × (now : SessionView) × IsOf s trusts.now (length tables.old) × IsOn P.theory.client_view s marks (record self.old { work = Some work }) first now client.old.books }
         ensures moved { (result ≡ true) → HasAdvanced P.theory (record self.old { work = Some work }) self.new tables.old client.old.books tables.new client.new.books }
         ensures waits { (result ≡ false) → (sink.new ≡ sink.old) × (shown_by self.new ≡ shown_by (record self.old { work = Some work }))
             × AllPending P.theory.client_view client.old.books client.new.books × MayDoNothing self.new client.new.books × (¬ (NoneCounts client.new.books)) }
@@ -266,9 +266,9 @@ impl Session {
         ensures looks { (result ≡ false) → TurnsBelow P.theory store_kind (length tables.old) looked.Pending tables.old client.old.books tables.new client.new.books }
         ensures turns { AsksOrTurns P.theory tables.old client.old.books tables.new client.new.books }
         ensures keeps { KeepsMarks client.old.books client.new.books }
-        ensures goes { (s : Setting) (first : SessionView) (left readings : Option (List ℕ)) → IsOf s trusts.now (length tables.old)
-            → IsOn P.theory.client_view s (record self.old { work = Some work }) first (seen P.theory.client_view client.old.books left readings (B.written sink.old)) client.old.books
-            → IsGoing P.theory.client_view s self.new.stopped self.new first (seen P.theory.client_view client.new.books left readings (B.written sink.new)) client.new.books }
+        ensures goes { (s : Setting) (marks : List (ℕ → StoreView)) (first : SessionView) (left readings : Option (List ℕ)) → IsOf s trusts.now (length tables.old)
+            → IsOn P.theory.client_view s marks (record self.old { work = Some work }) first (seen P.theory.client_view client.old.books left readings (B.written sink.old)) client.old.books
+            → IsGoingOn P.theory.client_view s marks self.new first (seen P.theory.client_view client.new.books left readings (B.written sink.new)) client.new.books }
         ensures home { (openings : ℕ → StoreState) → IsAtTables P.theory openings tables.old client.old.books → IsAtTables P.theory openings tables.new client.new.books }
     {
         if self.ask_and_take(work, client, tables.len(), trusts) {
@@ -289,12 +289,12 @@ impl Session {
     ) -> bool
         requires trusts { AreStoreTrusts (length tables.old) client.old.books trusts.now }
         requires home { (openings : ℕ → StoreState) × IsAtTables P.theory openings tables.old client.old.books }
-        requires going { (s : Setting) × (first : SessionView) × IsOf s trusts.now (length tables.old) × IsGoing P.theory.client_view s self.old.stopped self.old first
+        requires going { (s : Setting) × (marks : List (ℕ → StoreView)) × (first : SessionView) × IsOf s trusts.now (length tables.old) × IsGoing P.theory.client_view s marks self.old.stopped self.old first
             (seen P.theory.client_view client.old.books (A.left source.old) (W.readings clock.old) (B.written sink.old)) client.old.books }
         requires not_done { IsNotDone self.old.stopped self.old client.old.books }
-        ensures goes { (s : Setting) (first : SessionView) → IsOf s trusts.now (length tables.old)
-            → IsGoing P.theory.client_view s self.old.stopped self.old first (seen P.theory.client_view client.old.books (A.left source.old) (W.readings clock.old) (B.written sink.old)) client.old.books
-            → IsGoing P.theory.client_view s self.new.stopped self.new first (seen P.theory.client_view client.new.books (A.left source.new) (W.readings clock.new) (B.written sink.new)) client.new.books }
+        ensures goes { (s : Setting) (marks : List (ℕ → StoreView)) (first : SessionView) → IsOf s trusts.now (length tables.old)
+            → IsGoing P.theory.client_view s marks self.old.stopped self.old first (seen P.theory.client_view client.old.books (A.left source.old) (W.readings clock.old) (B.written sink.old)) client.old.books
+            → IsGoingOn P.theory.client_view s marks self.new first (seen P.theory.client_view client.new.books (A.left source.new) (W.readings clock.new) (B.written sink.new)) client.new.books }
         ensures moved { (result ≡ true) → HasAdvanced P.theory self.old self.new tables.old client.old.books tables.new client.new.books }
         ensures waits { (result ≡ false) → IsWaiting P.theory.client_view self.old self.new client.old.books client.new.books source.old source.new sink.old sink.new clock.old clock.new }
         ensures reads { (source.new ≡ source.old) ⊎ MayRead self.old }

@@ -1,7 +1,7 @@
 //! Laws of sessions.
 //!
 //! Nothing here runs: each function states a law.
-ghost use Rattle.std.specs.Prelude.{◌≡◌, ℕ, List, Option, length};
+ghost use Rattle.std.specs.Prelude.{◌≡◌, ℕ, List, [], Option, length};
 ghost use Rattle.tm_asking.specs.Asking.{AllOpen, NoneCounts};
 ghost use Rattle.tm_asking.specs.Turning.{IsAtTables};
 ghost use Rattle.mc_next.specs.Works.{StoreState};
@@ -26,7 +26,7 @@ pub fn sessions_begin<P: PairTable<Store>>(
     requires none { NoneCounts client.now.books }
     requires open { AllOpen client.now.books }
     ensures { (s : Setting) (left readings written : Option (List ℕ)) → s.limit ≡ session.now.limit
-        → IsSession P.theory.client_view s session.now (seen P.theory.client_view client.now.books left readings written)
+        → IsSession P.theory.client_view s [] session.now (seen P.theory.client_view client.now.books left readings written)
         (seen P.theory.client_view client.now.books left readings written) client.now.books }
 {
     let _ = session;

@@ -1,14 +1,14 @@
 //! A session: one connection, answered step by step.
-ghost use Rattle.std.specs.Prelude.{◌≡◌, ◌≢◌, ◌↔◌, ◌⊎◌, ℕ, [], length, true, false, IfOk, None, Some};
+ghost use Rattle.std.specs.Prelude.{◌≡◌, ◌≢◌, ◌↔◌, ◌⊎◌, ◌++◌, ℕ, List, [], length, true, false, IfOk, None, Some};
 ghost use Rattle.tm_asking.specs.Asking.{NoneCounts};
 ghost use Rattle.tm_asking.specs.declared.turning.Turned.TheVariants as looked;
 ghost use Rattle.tm_asking.specs.Turning.{IsAtTables, TurnsBelow};
-ghost use Rattle.mc_next.specs.Parts.{store_kind};
+ghost use Rattle.mc_next.specs.Parts.{StoreView, store_kind};
 ghost use Rattle.mc_next.specs.declared.ended.Ended.{Ended};
 ghost use Rattle.mc_next.specs.Clients.{AreStoreTrusts};
 ghost use Rattle.mc_next.specs.Works.{StoreState};
 ghost use Rattle.mc_next.specs.Runs.{Setting, SessionView};
-ghost use Rattle.mc_next.specs.Sessions.{IsFresh, IsOf, IsSession, IsOverSo, IsNotDone, seen};
+ghost use Rattle.mc_next.specs.Sessions.{IsFresh, IsOf, IsSession, HasMarked, IsOverSo, IsNotDone, seen};
 ghost use Rattle.mc_next.specs.Steps.{IsWaiting, HasAdvanced, AsksOrTurns, KeepsMarks, MayRead, IsDraining, IsCaused};
 
 use crate::ended::{Ended, Stepped};
@@ -100,11 +100,13 @@ impl Session {
     ) -> Stepped
         requires trusts { AreStoreTrusts (length tables.old) client.old.books trusts.now }
         requires home { (openings : ℕ → StoreState) × IsAtTables P.theory openings tables.old client.old.books }
-        requires session { (s : Setting) × (first : SessionView) × IsOf s trusts.now (length tables.old) × IsSession P.theory.client_view s self.old first
+        requires session { (s : Setting) × (marks : List (ℕ → StoreView)) × (first : SessionView) × IsOf s trusts.now (length tables.old) × IsSession P.theory.client_view s marks self.old first
             (seen P.theory.client_view client.old.books (A.left source.old) (W.readings clock.old) (B.written sink.old)) client.old.books }
-        ensures session { (s : Setting) (first : SessionView) → IsOf s trusts.now (length tables.old)
-            → IsSession P.theory.client_view s self.old first (seen P.theory.client_view client.old.books (A.left source.old) (W.readings clock.old) (B.written sink.old)) client.old.books
-            → IsSession P.theory.client_view s self.new first (seen P.theory.client_view client.new.books (A.left source.new) (W.readings clock.new) (B.written sink.new)) client.new.books }
+        // A command that was answered in this step stands at the end of the marks, with the client's sides as they stand now.
+        ensures session { (s : Setting) (marks : List (ℕ → StoreView)) (first : SessionView) → IsOf s trusts.now (length tables.old)
+            → IsSession P.theory.client_view s marks self.old first (seen P.theory.client_view client.old.books (A.left source.old) (W.readings clock.old) (B.written sink.old)) client.old.books
+            → (more : List (ℕ → StoreView)) × HasMarked P.theory.client_view client.new.books more
+            × IsSession P.theory.client_view s (marks ++ more) self.new first (seen P.theory.client_view client.new.books (A.left source.new) (W.readings clock.new) (B.written sink.new)) client.new.books }
         // It is over in the step that makes it so, and how it ended says why.
         ensures is_over { (ended : Ended) → (result ≡ Stepped.Over ended) ↔ (self.new.over ≡ Some ended) }
         // Once over, it does nothing more.

@@ -7,9 +7,10 @@ ghost use Rattle.mc_model.specs.Moments.{latest};
 ghost use Rattle.mc_model.specs.Quits.{is_quit_command};
 ghost use Rattle.mc_model.specs.declared.message.Message.{Message};
 ghost use Rattle.mc_intake.specs.Intake.{unfed, IsIntake};
+ghost use Rattle.mc_next.specs.Parts.{StoreView};
 ghost use Rattle.mc_next.specs.Works.{left_of, StoreState};
 ghost use Rattle.mc_next.specs.Runs.{Setting, SessionView};
-ghost use Rattle.mc_next.specs.Sessions.{IsOn, IsGoing, seen};
+ghost use Rattle.mc_next.specs.Sessions.{IsOn, IsGoingOn, seen};
 ghost use Rattle.mc_next.specs.Deeds.{HasGathered, HasFinished, HasBegun, HasMet, HasTakenOne, FeedsOnly, HasNoMore, ticked, with_command};
 
 use crate::ended::Ended;
@@ -143,9 +144,9 @@ impl Session {
         requires idle { self.old.work ≡ None }
         requires running { self.old.stopped ≡ None }
         requires no_quit { self.old.quit ≡ false }
-        ensures goes { (s : Setting) (first : SessionView) (left written : Option (List ℕ)) → s.trustees ≡ trustees
-            → IsOn P.theory.client_view s self.old first (seen P.theory.client_view client.now.books left (W.readings clock.old) written) client.now.books
-            → IsGoing P.theory.client_view s self.new.stopped self.new first (seen P.theory.client_view client.now.books left (W.readings clock.new) written) client.now.books }
+        ensures goes { (s : Setting) (marks : List (ℕ → StoreView)) (first : SessionView) (left written : Option (List ℕ)) → s.trustees ≡ trustees
+            → IsOn P.theory.client_view s marks self.old first (seen P.theory.client_view client.now.books left (W.readings clock.old) written) client.now.books
+            → IsGoingOn P.theory.client_view s marks self.new first (seen P.theory.client_view client.now.books left (W.readings clock.new) written) client.now.books }
         ensures taken { (result ≡ true) → HasTakenOne self.old self.new }
         ensures rests { (result ≡ false) → (self.new ≡ record self.old { intake = self.new.intake }) × (clock.new ≡ clock.old) }
         ensures more { (result ≡ false) → HasNoMore self.old.intake self.new.intake }
@@ -172,9 +173,9 @@ impl Session {
         requires many { trustees ≡ length client.now.books.lanes.items }
         requires idle { self.old.work ≡ None }
         requires running { self.old.stopped ≡ None }
-        ensures goes { (s : Setting) (first : SessionView) (left written : Option (List ℕ)) → s.trustees ≡ trustees
-            → IsOn P.theory.client_view s self.old first (seen P.theory.client_view client.now.books left (W.readings clock.old) written) client.now.books
-            → IsGoing P.theory.client_view s self.new.stopped self.new first (seen P.theory.client_view client.now.books left (W.readings clock.new) written) client.now.books }
+        ensures goes { (s : Setting) (marks : List (ℕ → StoreView)) (first : SessionView) (left written : Option (List ℕ)) → s.trustees ≡ trustees
+            → IsOn P.theory.client_view s marks self.old first (seen P.theory.client_view client.now.books left (W.readings clock.old) written) client.now.books
+            → IsGoingOn P.theory.client_view s marks self.new first (seen P.theory.client_view client.now.books left (W.readings clock.new) written) client.now.books }
         ensures taken { (result ≡ true) → HasTakenOne self.old self.new }
         ensures rests { (result ≡ false) → (self.new ≡ record self.old { intake = self.new.intake }) × (clock.new ≡ clock.old) × FeedsOnly self.old.intake self.new.intake }
         ensures more { (result ≡ false) → self.old.quit ≡ false → HasNoMore self.old.intake self.new.intake }

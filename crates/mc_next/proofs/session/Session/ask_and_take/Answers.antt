@@ -5,6 +5,7 @@ use Rattle.mc_next.specs.Steps.{HasWorkedOn}
 use Rattle.mc_next.proofs.Working.{all_are_asked, work_taken, work_asked}
 use Rattle.mc_next.proofs.Stepping.{neither_did}
 use Rattle.mc_next.proofs.Worked.{keeps_both, client_both, did_work, rests, goes_at_work, goes_finished, finish_did, finish_over, finish_cause}
+use Rattle.mc_next.proofs.Marked.{none_marked}
 use Rattle.mc_next.proofs.session.Session.ask_and_take.Goals as goal
 
 pub take_all-took-requires-clause-client : goal.take_all-took-requires-clause-client
@@ -14,7 +15,7 @@ take_all-took-requires-clause-client g c =
 
 pub take_all-took-requires-clause-asking : goal.take_all-took-requires-clause-asking
 take_all-took-requires-clause-asking g c =
-    let (s, first, now, of, on) = c.requires.on in
+    let (s, marks, first, now, of, on) = c.requires.on in
     let (pieces, left, some, asks) = c.ask_on-asked.ensures.asked in
     (on.client.was, _, asks.asks on.client.was on.client.asked on.client.at_work.2.many on.client.asks)
 
@@ -28,7 +29,7 @@ finish-requires-clause-client g c =
 
 pub finish-requires-clause-all : goal.finish-requires-clause-all
 finish-requires-clause-all g c =
-    let (s, first, now, of, on) = c.requires.on in
+    let (s, marks, first, now, of, on) = c.requires.on in
     let (pieces, left, some, asks) = c.ask_on-asked.ensures.asked in
     let takes = c.take_all-took.ensures.taken in
     let command = on.client.at_work.0 in
@@ -38,29 +39,29 @@ finish-requires-clause-all g c =
     (c.is_replied.ensures.asked c.if-is_replied.true)
 
 pub returns-then-is_replied-clause-goes : goal.returns-then-is_replied-clause-goes
-returns-then-is_replied-clause-goes g c = λ s first left readings written of on.
+returns-then-is_replied-clause-goes g c = λ s marks first left readings written of on.
     goes_finished g.P.PairTable.theory.client_view c.args.trusts.now c.args.self.now c.args.work c.ask_on-asked.new.self c.take_all-took.new.self c.args.client.now.books
-    c.ask_on-asked.new.client.books c.take_all-took.new.client.books c.ask_on-asked.result c.take_all-took.result c.ask_on-asked.ensures.asked c.take_all-took.ensures.taken s first left
+    c.ask_on-asked.new.client.books c.take_all-took.new.client.books c.ask_on-asked.result c.take_all-took.result c.ask_on-asked.ensures.asked c.take_all-took.ensures.taken s marks first left
     readings written c.requires.running (subst (λ n. IsOf s c.args.trusts.now n) c.requires.many of) on c.requires.idle (c.is_replied.ensures.asked c.if-is_replied.true)
     (c.is_replied.ensures.none c.if-is_replied.true) c.finish.new.self c.finish.ensures
 
 pub returns-then-is_replied-clause-moved : goal.returns-then-is_replied-clause-moved
 returns-then-is_replied-clause-moved g c = λ _.
-    let (s, first, now, of, on) = c.requires.on in
+    let (s, marks, first, now, of, on) = c.requires.on in
     finish_did g.P.PairTable.theory.client_view c.args.trusts.now c.args.self.now c.args.work c.ask_on-asked.new.self c.take_all-took.new.self c.args.client.now.books
     c.ask_on-asked.new.client.books c.take_all-took.new.client.books c.ask_on-asked.result c.take_all-took.result c.ask_on-asked.ensures.asked c.take_all-took.ensures.taken
     on.client.at_work.0 on.client.at_work.2.frame c.requires.idle c.requires.running c.finish.new.self c.finish.ensures
 
 pub returns-then-is_replied-clause-over : goal.returns-then-is_replied-clause-over
 returns-then-is_replied-clause-over g c =
-    let (s, first, now, of, on) = c.requires.on in
+    let (s, marks, first, now, of, on) = c.requires.on in
     finish_over g.P.PairTable.theory.client_view c.args.trusts.now c.args.self.now c.args.work c.ask_on-asked.new.self c.take_all-took.new.self c.args.client.now.books
     c.ask_on-asked.new.client.books c.take_all-took.new.client.books c.ask_on-asked.result c.take_all-took.result c.ask_on-asked.ensures.asked c.take_all-took.ensures.taken
     on.client.at_work.0 on.client.at_work.2.frame c.requires.idle c.requires.running c.finish.new.self c.finish.ensures
 
 pub returns-then-is_replied-clause-cause : goal.returns-then-is_replied-clause-cause
 returns-then-is_replied-clause-cause g c =
-    let (s, first, now, of, on) = c.requires.on in
+    let (s, marks, first, now, of, on) = c.requires.on in
     finish_cause g.P.PairTable.theory.client_view c.args.trusts.now c.args.self.now c.args.work c.ask_on-asked.new.self c.take_all-took.new.self c.args.client.now.books
     c.ask_on-asked.new.client.books c.take_all-took.new.client.books c.ask_on-asked.result c.take_all-took.result c.ask_on-asked.ensures.asked c.take_all-took.ensures.taken
     on.client.at_work.0 on.client.at_work.2.frame c.requires.idle c.requires.running c.finish.new.self c.finish.ensures
@@ -76,13 +77,14 @@ returns-then-is_replied-clause-client g c =
     c.ask_on-asked.new.client.books c.take_all-took.new.client.books c.ask_on-asked.result c.take_all-took.result c.ask_on-asked.ensures.asked c.take_all-took.ensures.taken
 
 pub returns-clause-goes : goal.returns-clause-goes
-returns-clause-goes g c = λ s first left readings written of on.
+returns-clause-goes g c = λ s marks first left readings written of on.
     let view = g.P.PairTable.theory.client_view in
     let books = c.take_all-took.new.client.books in
-    subst (λ session. IsGoing view s session.stopped session first (seen view books left readings written) books) (sym c.keep.ensures)
+    none_marked view s marks first (seen view books left readings written) books c.keep.new.self
+    (subst (λ session. IsGoing view s marks session.stopped session first (seen view books left readings written) books) (sym c.keep.ensures)
     (goes_at_work view c.args.trusts.now c.args.self.now c.args.work c.ask_on-asked.new.self c.take_all-took.new.self c.args.client.now.books
-    c.ask_on-asked.new.client.books books c.ask_on-asked.result c.take_all-took.result c.ask_on-asked.ensures.asked c.take_all-took.ensures.taken s first left
-    readings written c.requires.running (subst (λ n. IsOf s c.args.trusts.now n) c.requires.many of) on)
+    c.ask_on-asked.new.client.books books c.ask_on-asked.result c.take_all-took.result c.ask_on-asked.ensures.asked c.take_all-took.ensures.taken s marks first left
+    readings written c.requires.running (subst (λ n. IsOf s c.args.trusts.now n) c.requires.many of) on))
 
 pub returns-clause-moved : goal.returns-clause-moved
 returns-clause-moved g c = λ e.

@@ -51,9 +51,9 @@ returns-in-Moved-clause-keeps g c =
     (turned_marks theory _ c.args.tables.now c.turn_where_counting.new.tables c.drop_replies.new.client.books new c.in-Moved.ensures.turned)
 
 pub returns-in-Moved-clause-given : goal.returns-in-Moved-clause-given
-returns-in-Moved-clause-given g c = λ s first now given.
-    turned_given g.P.PairTable.theory.client_view s c.drop_replies.new.self first c.drop_replies.new.client.books c.turn_where_counting.new.client.books now now refl refl refl
-    (c.turn_where_counting.ensures.asks Missing) (c.drop_replies.ensures.given s first now given)
+returns-in-Moved-clause-given g c = λ s marks first now given.
+    turned_given g.P.PairTable.theory.client_view s marks c.drop_replies.new.self first c.drop_replies.new.client.books c.turn_where_counting.new.client.books now now refl refl refl
+    (c.turn_where_counting.ensures.asks Missing) (c.drop_replies.ensures.given s marks first now given)
 
 pub returns-in-Moved-clause-home : goal.returns-in-Moved-clause-home
 returns-in-Moved-clause-home g c = λ openings home.
@@ -88,9 +88,9 @@ returns-in_default g c =
           (turned_pends theory _ tables tables_new mid new turns openings home_mid none c.in_default.not-Moved (λ no. c.requires.counts (subst (λ b. NoneCounts b) same no)));
       turns = turns_from theory mid old tables tables_new new c.turn_where_counting.result same turns;
       keeps = subst (λ b. KeepsMarks b new) same (turned_marks theory _ tables tables_new mid new turns);
-      given = λ s first now given.
-          turned_given theory.client_view s c.drop_replies.new.self first mid new now now refl refl refl
-          (c.turn_where_counting.ensures.asks Missing) (c.drop_replies.ensures.given s first now given);
+      given = λ s marks first now given.
+          turned_given theory.client_view s marks c.drop_replies.new.self first mid new now now refl refl refl
+          (c.turn_where_counting.ensures.asks Missing) (c.drop_replies.ensures.given s marks first now given);
       home = λ openings home.
           c.turn_where_counting.ensures.home openings
           (home_stays theory openings tables old mid home c.drop_replies.ensures.keeps (c.drop_replies.ensures.client openings home.client));

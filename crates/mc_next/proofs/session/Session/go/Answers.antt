@@ -5,18 +5,19 @@ use Rattle.mc_next.proofs.Advancing.{idle_less}
 use Rattle.mc_next.proofs.Endings.{why_stopped, not_stopped, given_now, drained_going}
 use Rattle.mc_next.proofs.Stepping.{called_none, drained_waits, worked_waits}
 use Rattle.mc_next.proofs.Turned.{seen_given}
+use Rattle.mc_next.proofs.Marked.{none_marked}
 use Rattle.mc_next.proofs.session.Session.go.Goals as goal
 
 pub drain-requires-clause-given : goal.drain-requires-clause-given
 drain-requires-clause-given g c =
     let old = c.args.self.now in
     let books = c.args.client.now.books in
-    let (s, first, of, going) = c.requires.going in
+    let (s, marks, first, of, going) = c.requires.going in
     let (why, stopped) = why_stopped old.stopped (sym c.is_some.ensures ∙ c.if-is_some.true) in
-    (s, first, _, given_now g.P.PairTable.theory.client_view s old first _ books (subst (λ o. IsNotDone o old books) stopped c.requires.not_done) why stopped going)
+    (s, marks, first, _, given_now g.P.PairTable.theory.client_view s marks old first _ books (subst (λ o. IsNotDone o old books) stopped c.requires.not_done) why stopped going)
 
 pub returns-then-is_some-clause-goes : goal.returns-then-is_some-clause-goes
-returns-then-is_some-clause-goes g c = λ s first of going.
+returns-then-is_some-clause-goes g c = λ s marks first of going.
     let view = g.P.PairTable.theory.client_view in
     let old = c.args.self.now in
     let new = c.drain.new.self in
@@ -29,8 +30,9 @@ returns-then-is_some-clause-goes g c = λ s first of going.
     let count = subst (λ o. IsNotDone o old books) stopped c.requires.not_done in
     let now = seen view books left readings told in
     let later = seen view books_new left readings told in
-    drained_going view s old first now books count why stopped going new later books_new c.drain.ensures.session
-    (seen_given view s new first books_new now later refl refl refl (c.drain.ensures.given s first now (given_now view s old first now books count why stopped going)))
+    none_marked view s marks first later books_new new
+    (drained_going view s marks old first now books count why stopped going new later books_new c.drain.ensures.session
+    (seen_given view s marks new first books_new now later refl refl refl (c.drain.ensures.given s marks first now (given_now view s marks old first now books count why stopped going))))
 
 pub returns-then-is_some-clause-waits : goal.returns-then-is_some-clause-waits
 returns-then-is_some-clause-waits g c = λ e.
@@ -56,14 +58,14 @@ work_on-requires-clause-on g c =
     let view = g.P.PairTable.theory.client_view in
     let old = c.args.self.now in
     let books = c.args.client.now.books in
-    let (s, first, of, going) = c.requires.going in
+    let (s, marks, first, of, going) = c.requires.going in
     let now = seen view books (g.A.Source.left c.args.source.now) (g.W.Clock.readings c.args.clock.now) (g.B.Sink.written c.args.sink.now) in
     let running = not_stopped old.stopped (sym c.is_some.ensures ∙ c.if-is_some.false) in
-    let on = subst (λ o. IsGoing view s o old first now books) running going in
-    (s, first, now, of, subst (λ w. IsOn view s (record old { work = w }) first now books) (sym c.in-Some.ensures.value) on)
+    let on = subst (λ o. IsGoing view s marks o old first now books) running going in
+    (s, marks, first, now, of, subst (λ w. IsOn view s marks (record old { work = w }) first now books) (sym c.in-Some.ensures.value) on)
 
 pub returns-clause-goes : goal.returns-clause-goes
-returns-clause-goes g c = λ s first of going.
+returns-clause-goes g c = λ s marks first of going.
     let view = g.P.PairTable.theory.client_view in
     let old = c.args.self.now in
     let books = c.args.client.now.books in
@@ -71,8 +73,8 @@ returns-clause-goes g c = λ s first of going.
     let readings = g.W.Clock.readings c.args.clock.now in
     let now = seen view books left readings (g.B.Sink.written c.args.sink.now) in
     let running = not_stopped old.stopped (sym c.is_some.ensures ∙ c.if-is_some.false) in
-    let on = subst (λ o. IsGoing view s o old first now books) running going in
-    c.work_on.ensures.goes s first left readings of (subst (λ w. IsOn view s (record old { work = w }) first now books) (sym c.in-Some.ensures.value) on)
+    let on = subst (λ o. IsGoing view s marks o old first now books) running going in
+    c.work_on.ensures.goes s marks first left readings of (subst (λ w. IsOn view s marks (record old { work = w }) first now books) (sym c.in-Some.ensures.value) on)
 
 pub returns-clause-waits : goal.returns-clause-waits
 returns-clause-waits g c = λ e.

@@ -26,12 +26,12 @@ returns-in-Moved-clause-keeps g c =
     turned_marks g.P.PairTable.theory _ c.args.tables.now c.turn_where_counting.new.tables c.args.client.now.books c.turn_where_counting.new.client.books c.in-Moved.ensures.turned
 
 pub returns-in-Moved-clause-goes : goal.returns-in-Moved-clause-goes
-returns-in-Moved-clause-goes g c = λ s first left readings on.
+returns-in-Moved-clause-goes g c = λ s marks first left readings on.
     let (w, e) = c.requires.busy in
     let view = g.P.PairTable.theory.client_view in
     let new = c.turn_where_counting.new.client.books in
-    goes_on view s first _ new c.args.self.now c.requires.running
-    (turned_on view s c.args.self.now first c.args.client.now.books new _ _ refl refl refl w e (c.turn_where_counting.ensures.asks Missing) on)
+    goes_on view s marks first _ new c.args.self.now c.requires.running
+    (turned_on view s marks c.args.self.now first c.args.client.now.books new _ _ refl refl refl w e (c.turn_where_counting.ensures.asks Missing) on)
 
 pub returns-then-is_empty : goal.returns-then-is_empty
 returns-then-is_empty g c =
@@ -58,9 +58,9 @@ returns-then-is_empty g c =
       looks = λ _. turned_pends theory _ tables tables_new old new turns openings home c.requires.none c.in_default.not-Moved c.requires.counts;
       turns = (c.turn_where_counting.result, turns);
       keeps = turned_marks theory _ tables tables_new old new turns;
-      goes = λ s first left readings on.
-          goes_on theory.client_view s first _ new c.args.self.now c.requires.running
-          (turned_on theory.client_view s c.args.self.now first old new _ _ refl refl refl w e (c.turn_where_counting.ensures.asks Missing) on);
+      goes = λ s marks first left readings on.
+          goes_on theory.client_view s marks first _ new c.args.self.now c.requires.running
+          (turned_on theory.client_view s marks c.args.self.now first old new _ _ refl refl refl w e (c.turn_where_counting.ensures.asks Missing) on);
       home = c.turn_where_counting.ensures.home;
     }
 
@@ -82,9 +82,9 @@ returns g c =
       looks = λ no. absurd (false≢true (sym no));
       turns = (c.turn_where_counting.result, turns);
       keeps = turned_marks theory _ c.args.tables.now c.turn_where_counting.new.tables old new turns;
-      goes = λ s first left readings on.
-          written theory.client_view s first (seen theory.client_view new left readings told) (seen theory.client_view new left readings told_now) new c.args.self.now
-          (turned_on theory.client_view s c.args.self.now first old new _ _ refl refl refl w e (c.turn_where_counting.ensures.asks Missing) on)
+      goes = λ s marks first left readings on.
+          written theory.client_view s marks first (seen theory.client_view new left readings told) (seen theory.client_view new left readings told_now) new c.args.self.now
+          (turned_on theory.client_view s marks c.args.self.now first old new _ _ refl refl refl w e (c.turn_where_counting.ensures.asks Missing) on)
           refl refl _ _ c.requires.running c.write.new.self c.write.ensures;
       home = c.turn_where_counting.ensures.home;
     }

@@ -1,4 +1,4 @@
-use Rattle.std.proofs.Common.{Some, length, refl, ap, subst, ◌∙◌, inl}
+use Rattle.std.proofs.Common.{◌≡◌, ◌++◌, [], Some, length, refl, ap, subst, ◌∙◌, inl, inr}
 use Rattle.tm_asking.specs.declared.turning.Turned.TheVariants.{Pending}
 use Rattle.tm_asking.specs.Turning.{TurnsBelow}
 use Rattle.mc_next.specs.Parts.{store_kind}
@@ -49,15 +49,19 @@ returns-clause-moved g c = λ e.
     (ap before_of rests.session ∙ same_before old c.args.work rests.becomes rests.left) (c.turn_or_write.ensures.moved e))
 
 pub returns-clause-goes : goal.returns-clause-goes
-returns-clause-goes g c = λ s first left readings of on.
+returns-clause-goes g c = λ s marks first left readings of on.
     let view = g.P.PairTable.theory.client_view in
     let mid = c.ask_and_take.new.self in
     let books = c.ask_and_take.new.client.books in
     let told = g.B.Sink.written c.args.sink.now in
     let (same, rests) = c.if-ask_and_take.ensures.rests refl in
     let running = ap (λ session. session.stopped) rests.session ∙ c.requires.running in
-    c.turn_or_write.ensures.goes s first left readings
-    (subst (λ o. IsGoing view s o mid first (seen view books left readings told) books) running (c.ask_and_take.ensures.goes s first left readings told of on))
+    let (more, marked, going) = c.ask_and_take.ensures.goes s marks first left readings told of on in
+    let none : more ≡ [] = elim marked [ inl e ↦ e | inr done ↦ absurd (rests.counts done.1) ] in (
+      more,
+      inl none,
+      c.turn_or_write.ensures.goes s (marks ++ more) first left readings (subst (λ o. IsGoing view s (marks ++ more) o mid first (seen view books left readings told) books) running going),
+    )
 
 pub returns-clause-home : goal.returns-clause-home
 returns-clause-home g c = λ openings home.
