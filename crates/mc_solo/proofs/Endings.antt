@@ -1,11 +1,11 @@
 -- How a session ended, why, and what it has done that did nothing.
-use Rattle.std.proofs.Common.{◌≡◌, ◌≢◌, ℕ, zero, suc, inl, inr, List, [], take, refl, sym, ◌∙◌, ap, subst, Some, append-nil}
+use Rattle.std.proofs.Common.{arith, ◌≡◌, ◌≢◌, ℕ, zero, suc, inl, inr, List, [], take, refl, sym, ◌∙◌, ap, subst, Some, append-nil}
 use Rattle.tm_base.specs.Causes.{Rose}
 use Rattle.mc_grammar.proofs.Spellings.{part_of_line}
 use Rattle.mc_next.specs.declared.ended.Ended.{Ended}
 use Rattle.mc_next.specs.declared.ended.Ended.TheVariants.{AtEnd, Quit, Inside, ReadFault, WriteFault, TooMuch, NoMemory}
 use Rattle.mc_next.specs.declared.session.Session.{Session}
-use Rattle.mc_next.specs.Runs.{Setting, SessionView, HasRun}
+use Rattle.mc_next.specs.Runs.{Setting, SessionView, HasRun, IsInTurn}
 use Rattle.mc_next.specs.Sessions.{HasEndedSo}
 use Rattle.mc_next.specs.Steps.{IsCaused}
 use Rattle.mc_next.proofs.Streams.{grows_none}
@@ -52,37 +52,43 @@ take_none zero = refl
 take_none (suc n) = refl
 
 -- where memory was wanting from the start, nothing was done
-pub nothing_ran : (s : Setting) (v : SessionView) → HasRun s NoMemory v v
-nothing_ran s v = record {
-  text = [];
-  messages = [];
-  rest = [];
-  has_read = record {
-    came = λ bytes is. (bytes, refl, is);
-    reads = record { front = []; parts = take_none s.limit; spelled = refl; partial = part_of_line [] tt };
-  };
-  run = record {
-    answered = [];
-    others = [];
-    untaken = [];
-    parts = refl;
-    readings = [];
-    is_read = grows_none v.clock;
-    once = refl;
-    replies = [];
-    each = tt;
-    asked = λ t lt. record {
-      place = refl;
-      asked = [];
-      first = ([], refl);
-      sent = sym (append-nil (v.sides t).sent);
-      grown = [];
-      seen = sym (append-nil (v.sides t).seen);
-      runs = ([], refl);
-      answers = [];
-      answered_first = ([], refl);
-      replied = tt;
+pub nothing_in_turn : (s : Setting) (v : SessionView) → (run : HasRun s NoMemory v v) × IsInTurn s [] NoMemory v v run
+nothing_in_turn s v = (
+  record {
+    text = [];
+    messages = [];
+    rest = [];
+    has_read = record {
+      came = λ bytes is. (bytes, refl, is);
+      reads = record { front = []; parts = take_none s.limit; spelled = refl; partial = part_of_line [] tt };
     };
-    is_written = λ written e. (0, e ∙ ap (λ (l : List ℕ). Some l) (sym (append-nil written)));
-  };
-}
+    run = record {
+      answered = [];
+      others = [];
+      untaken = [];
+      parts = refl;
+      readings = [];
+      is_read = grows_none v.clock;
+      once = refl;
+      replies = [];
+      each = tt;
+      asked = λ t lt. record {
+        place = refl;
+        asked = [];
+        first = ([], refl);
+        sent = sym (append-nil (v.sides t).sent);
+        grown = [];
+        seen = sym (append-nil (v.sides t).seen);
+        runs = ([], refl);
+        answers = [];
+        answered_first = ([], refl);
+        replied = tt;
+      };
+      is_written = λ written e. (0, e ∙ ap (λ (l : List ℕ). Some l) (sym (append-nil written)));
+    };
+  },
+  (tt, omega arith),
+)
+
+pub nothing_ran : (s : Setting) (v : SessionView) → HasRun s NoMemory v v
+nothing_ran s v = (nothing_in_turn s v).0

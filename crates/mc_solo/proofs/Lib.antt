@@ -1,6 +1,8 @@
 pub mod Lists
 pub mod Staged
 pub mod Chained
+pub mod Growing
+pub mod Marking
 pub mod Standing
 pub mod Positions
 pub mod Endings

@@ -1,5 +1,5 @@
 -- A session that is driven stands after a step as it stood before it.
-use Rattle.std.proofs.Common.{◌≡◌, ◌≢◌, ℕ, ◌+◌, ◌<◌, ◌≤◌, inl, inr, List, [], ◌∷◌, length, length-set, refl, sym, ◌∙◌, ap, subst, arith, Option, Some, None}
+use Rattle.std.proofs.Common.{◌≡◌, ◌≢◌, ℕ, ◌+◌, ◌<◌, ◌≤◌, inl, inr, List, [], ◌∷◌, ◌++◌, length, length-set, refl, sym, ◌∙◌, ap, subst, arith, Option, Some, None}
 use Rattle.std.specs.Prelude.{slice_get, slice_index_or}
 use Rattle.std.specs.Vec.{with_item}
 use Rattle.std.proofs.lemmas.Option.{slice_get_within}
@@ -12,7 +12,7 @@ use Rattle.tm_client.specs.declared.trust.Trust.{Trust}
 use Rattle.tm_asking.specs.declared.turning.Turned.{Turned}
 use Rattle.tm_asking.specs.declared.turning.Turned.TheVariants as looked
 use Rattle.tm_asking.specs.Turning.{IsAtTables, TurnsBelow}
-use Rattle.tm_asking.specs.Asking.{NoneCounts}
+use Rattle.tm_asking.specs.Asking.{NoneCounts, AllOpen}
 use Rattle.tm_turns.specs.Whole.{AreTurns, Keeps, CallsAt, CallsKeep}
 use Rattle.tm_turns.specs.Driving.{TakesAt, IsToDrive, ServesEach, DeedsKeep, DrivingEnds}
 use Rattle.mc_model.specs.declared.message.Message.{Message}
@@ -23,16 +23,18 @@ use Rattle.mc_route.specs.Places.{StoreValue}
 use Rattle.mc_next.specs.declared.ended.Ended.{Ended}
 use Rattle.mc_next.specs.declared.ended.Ended.TheVariants as ended
 use Rattle.mc_next.specs.declared.session.Session.{Session}
-use Rattle.mc_next.specs.Parts.{StoreTask, store_kind}
+use Rattle.mc_next.specs.Parts.{StoreTask, StoreView, store_kind}
 use Rattle.mc_next.specs.Clients.{StoreBooks, AreStoreTrusts}
 use Rattle.mc_next.specs.Works.{StoreState}
-use Rattle.mc_next.specs.Runs.{Setting, SessionView, HasRun}
-use Rattle.mc_next.specs.Sessions.{IsOf, IsSession, IsGoing, Holds, taken, seen}
+use Rattle.mc_next.specs.Runs.{Setting, SessionView, HasRun, IsInTurn}
+use Rattle.mc_next.specs.Sessions.{IsOf, IsSession, IsGoing, Holds, HasMarked, taken, seen}
 use Rattle.mc_next.specs.Steps.{Shown, shown_by, before_of, one_unless, one_where_none, one_where_some, IsWaiting, HasTakenSome, HasAdvanced, AsksOrTurns, KeepsMarks}
-use Rattle.mc_solo.specs.Serving.{StoreTurns, StoreClient, store_view, MayServe, KeepsOthers}
+use Rattle.mc_solo.specs.Serving.{StoreTurns, StoreClient, store_view, MayServe, KeepsOthers, GoesOn}
 use Rattle.mc_solo.specs.Driving.{IsDriven, one_in, arrived_in, still_to_go, HasGoneOn, HasWaited}
 use Rattle.mc_solo.proofs.Lists.{items_are}
 use Rattle.mc_solo.proofs.Staged.{staged, SameLists, keeps_same}
+use Rattle.mc_solo.proofs.Growing.{grow_same}
+use Rattle.mc_solo.proofs.Marking.{marks_still, marks_then, on_served}
 use Rattle.mc_solo.proofs.Chained.{HasChained, chained}
 
 -- the tables of a trustee of the store on this thread
@@ -60,8 +62,8 @@ home_of place turns client trusts (config, first, are) of_client are_trusts = (
 )
 
 -- the client that stands at the place of one that is driven is that one
-module _ (s : Setting) (first : SessionView) (place : ℕ) (trusts : List Trust) (session : Session) (turns : StoreTurns) (left readings written : Option (List ℕ))
-    (d : IsDriven s first place trusts session turns left readings written) (client : StoreClient) (value : client ≡ slice_index_or turns.clients.items place client) where
+module _ (s : Setting) (first : SessionView) (start : StoreTurns) (place : ℕ) (trusts : List Trust) (session : Session) (turns : StoreTurns) (left readings written : Option (List ℕ))
+    (d : IsDriven s first start place trusts session turns left readings written) (client : StoreClient) (value : client ≡ slice_index_or turns.clients.items place client) where
   pub entered : slice_get turns.clients.items place ≡ Some client
   entered = read_at turns.clients.items place client (slice_get_within turns.clients.items place d.client d.of_client) value
 
@@ -78,10 +80,10 @@ module _ (s : Setting) (first : SessionView) (place : ℕ) (trusts : List Trust)
       )
 
   pub entered_session : (tables : List StoreTable) → tables ≡ turns.tables.items
-      → IsOf s trusts (length tables) × IsSession store_view s session first (seen store_view client.books left readings written) client.books
+      → IsOf s trusts (length tables) × IsSession store_view s d.marks session first (seen store_view client.books left readings written) client.books
   entered_session tables same = (
     subst (λ xs. IsOf s trusts (length xs)) (sym same) d.is_of,
-    subst (λ x. IsSession store_view s session first (seen store_view x.books left readings written) x.books) entered_is d.holds,
+    subst (λ x. IsSession store_view s d.marks session first (seen store_view x.books left readings written) x.books) entered_is d.holds,
   )
 
 -- of what a session shows
@@ -143,6 +145,9 @@ module _ (place : ℕ) (turns : StoreTurns) (are : AreTurns store_kind turns) (c
     others = λ c other. set_other turns.clients.items place c becomes other;
   }
 
+  stepped_on : GoesOn place turns new
+  stepped_on = record { keeps = stepped_keeps.0; logs = grow_same turns new refl; others = stepped_others }
+
   tables_are : new.tables.items ≡ tables_new
   tables_are = items_are turns.tables tables_new stepped_keeps.1
 
@@ -154,26 +159,31 @@ module _ (place : ℕ) (turns : StoreTurns) (are : AreTurns store_kind turns) (c
 
   -- it stands
   pub stepped_stands :
-      (s : Setting) (first : SessionView) (trusts : List Trust) (session session_new : Session) (left readings written left_new readings_new written_new : Option (List ℕ))
-      → IsDriven s first place trusts session turns left readings written
-      → (IsOf s trusts (length turns.tables.items) → IsSession store_view s session first (seen store_view client.books left readings written) client.books
-      → IsSession store_view s session_new first (seen store_view becomes.books left_new readings_new written_new) becomes.books)
+      (s : Setting) (first : SessionView) (start : StoreTurns) (trusts : List Trust) (session session_new : Session) (left readings written left_new readings_new written_new : Option (List ℕ))
+      → (d : IsDriven s first start place trusts session turns left readings written)
+      → (IsOf s trusts (length turns.tables.items) → IsSession store_view s d.marks session first (seen store_view client.books left readings written) client.books
+      → (more : List (ℕ → StoreView)) × HasMarked store_view becomes.books more
+      × IsSession store_view s (d.marks ++ more) session_new first (seen store_view becomes.books left_new readings_new written_new) becomes.books)
       → KeepsMarks client.books becomes.books → AreStoreTrusts (length tables_new) becomes.books trusts
-      → IsDriven s first place trusts session_new new left_new readings_new written_new
-  stepped_stands s first trusts session session_new left readings written left_new readings_new written_new d goes marks trusts_new =
+      → IsDriven s first start place trusts session_new new left_new readings_new written_new
+  stepped_stands s first start trusts session session_new left readings written left_new readings_new written_new d goes still trusts_new =
       let client_is : d.client ≡ client = same_element turns.clients.items place client d.client of_client d.of_client in
+      let (more, marked, holds) = goes d.is_of (subst (λ x. IsSession store_view s d.marks session first (seen store_view x.books left readings written) x.books) client_is d.holds) in
+      let opened : AllOpen becomes.books = λ t lane e.
+      let lt = slice_get_within becomes.books.lanes.items t lane e in
+      let many = still.many in
+      let (was, f) = element_at client.books.lanes.items t (omega (arith, lt, many)) in
+      (still.marks t was lane f e).0 ∙ d.all_open t was (subst (λ x. slice_get x.books.lanes.items t ≡ Some was) (sym client_is) f) in
       let (config, firsts, of) = are in record {
         are = (config, firsts, stepped_keeps.0 config firsts of);
         client = becomes;
         of_client = of_becomes;
         are_trusts = subst (λ xs. AreStoreTrusts (length xs) becomes.books trusts) (sym tables_are) trusts_new;
-        all_open = λ t lane e.
-            let lt = slice_get_within becomes.books.lanes.items t lane e in
-            let many = marks.many in
-            let (was, f) = element_at client.books.lanes.items t (omega (arith, lt, many)) in
-            (marks.marks t was lane f e).0 ∙ d.all_open t was (subst (λ x. slice_get x.books.lanes.items t ≡ Some was) (sym client_is) f);
+        all_open = opened;
         is_of = record { names = d.is_of.names; trustees_are = d.is_of.trustees_are ∙ sym same_many };
-        holds = goes d.is_of (subst (λ x. IsSession store_view s session first (seen store_view x.books left readings written) x.books) client_is d.holds);
+        marks = d.marks ++ more;
+        marked = marks_then place start turns new d.marks d.marked stepped_on becomes of_becomes opened more marked;
+        holds = holds;
       }
 
   -- what arrived, before and after
@@ -244,9 +254,10 @@ module _ (place : ℕ) (turns : StoreTurns) (are : AreTurns store_kind turns) (c
 -- the trustees served, and no client changed
 module _ (place : ℕ) (turns served : StoreTurns) (same : served.clients ≡ turns.clients) (keeps : Keeps store_kind turns served) where
   pub served_stands :
-      (s : Setting) (first : SessionView) (trusts : List Trust) (session : Session) (left readings written : Option (List ℕ))
-      → IsDriven s first place trusts session turns left readings written → IsDriven s first place trusts session served left readings written
-  served_stands s first trusts session left readings written d =
+      (n : ℕ) → ServesEach store_kind n turns served
+      → (s : Setting) (first : SessionView) (start : StoreTurns) (trusts : List Trust) (session : Session) (left readings written : Option (List ℕ))
+      → IsDriven s first start place trusts session turns left readings written → IsDriven s first start place trusts session served left readings written
+  served_stands n serves s first start trusts session left readings written d =
       let (config, firsts, are) = d.are in
       let are_served = keeps config firsts are in
       let many : length served.tables.items ≡ length turns.tables.items = are_served.as_many_tables ∙ sym are.as_many_tables in record {
@@ -256,6 +267,8 @@ module _ (place : ℕ) (turns served : StoreTurns) (same : served.clients ≡ tu
         are_trusts = subst (λ n. AreStoreTrusts n d.client.books trusts) (sym many) d.are_trusts;
         all_open = d.all_open;
         is_of = record { names = d.is_of.names; trustees_are = d.is_of.trustees_are ∙ sym many };
+        marks = d.marks;
+        marked = marks_still place start turns served d.marks d.marked (on_served place n turns served d.are same keeps serves);
         holds = d.holds;
       }
 
@@ -272,30 +285,24 @@ module _ (place : ℕ) (turns served : StoreTurns) (same : served.clients ≡ tu
 
 -- what is still in hand of a session that is not over
 going_intake :
-    (s : Setting) (stopped : Option Ended) (session : Session) (first now : SessionView) (books : StoreBooks StoreSide) → IsGoing store_view s stopped session first now books
+    (s : Setting) (marks : List (ℕ → StoreView)) (stopped : Option Ended) (session : Session) (first now : SessionView) (books : StoreBooks StoreSide) → IsGoing store_view s marks stopped session first now books
     → (limit : ℕ) × (text : List ℕ) × (messages : List Message) × IsIntake limit text messages session.intake
-going_intake s None session first now books on = (s.limit, on.past.text, taken on.past, on.input.is_intake)
-going_intake s (Some ended.WriteFault) session first now books given = (s.limit, given.past.text, taken given.past, given.input.is_intake)
-going_intake s (Some ended.NoMemory) session first now books given = (s.limit, given.past.text, taken given.past, given.input.is_intake)
-going_intake s (Some ended.ReadFault) session first now books (on, idle, written, fed, no_quit, within) = (s.limit, on.past.text, taken on.past, on.input.is_intake)
-going_intake s (Some ended.AtEnd) session first now books h = absurd h
-going_intake s (Some ended.Quit) session first now books h = absurd h
-going_intake s (Some ended.Inside) session first now books h = absurd h
-going_intake s (Some ended.TooMuch) session first now books h = absurd h
+going_intake s marks None session first now books on = (s.limit, on.past.text, taken on.past, on.input.is_intake)
+going_intake s marks (Some ended.WriteFault) session first now books given = (s.limit, given.past.text, taken given.past, given.input.is_intake)
+going_intake s marks (Some ended.NoMemory) session first now books given = (s.limit, given.past.text, taken given.past, given.input.is_intake)
+going_intake s marks (Some ended.ReadFault) session first now books (on, idle, written, fed, no_quit, within) = (s.limit, on.past.text, taken on.past, on.input.is_intake)
+going_intake s marks (Some ended.AtEnd) session first now books h = absurd h
+going_intake s marks (Some ended.Quit) session first now books h = absurd h
+going_intake s marks (Some ended.Inside) session first now books h = absurd h
+going_intake s marks (Some ended.TooMuch) session first now books h = absurd h
 
 pub intake_of :
-    (s : Setting) (first : SessionView) (place : ℕ) (trusts : List Trust) (session : Session) (turns : StoreTurns) (left readings written : Option (List ℕ))
-    → IsDriven s first place trusts session turns left readings written → session.over ≡ None
+    (s : Setting) (first : SessionView) (start : StoreTurns) (place : ℕ) (trusts : List Trust) (session : Session) (turns : StoreTurns) (left readings written : Option (List ℕ))
+    → IsDriven s first start place trusts session turns left readings written → session.over ≡ None
     → (limit : ℕ) × (text : List ℕ) × (messages : List Message) × IsIntake limit text messages session.intake
-intake_of s first place trusts session turns left readings written d none =
+intake_of s first start place trusts session turns left readings written d none =
     let now = seen store_view d.client.books left readings written in
-    going_intake s session.stopped session first now d.client.books (subst (λ over. Holds store_view s over session first now d.client.books) none d.holds).0
-
-pub both_others : (place : ℕ) (old mid new : StoreTurns) → KeepsOthers place old mid → KeepsOthers place mid new → KeepsOthers place old new
-both_others place old mid new a b = record {
-  as_many = b.as_many ∙ a.as_many;
-  others = λ c other. b.others c other ∙ a.others c other;
-}
+    going_intake s d.marks session.stopped session first now d.client.books (subst (λ over. Holds store_view s d.marks over session first now d.client.books) none d.holds).0
 
 -- an option that is none of its values is none
 pub none_where : {X : Type 0} (o : Option X) → ((x : X) → o ≡ Some x → ⊥) → o ≡ None
@@ -303,17 +310,25 @@ none_where None f = refl
 none_where (Some x) f = absurd (f x refl)
 
 -- a session that is over has run, and its client may serve again
-module _ (s : Setting) (first : SessionView) (place : ℕ) (trusts : List Trust) (session : Session) (turns : StoreTurns) (left readings written : Option (List ℕ))
-    (d : IsDriven s first place trusts session turns left readings written) (how : Ended) (over : session.over ≡ Some how) where
-  driven_over : HasRun s how first (seen store_view d.client.books left readings written) × NoneCounts d.client.books
-  driven_over = subst (λ o. Holds store_view s o session first (seen store_view d.client.books left readings written) d.client.books) over d.holds
+module _ (s : Setting) (first : SessionView) (start : StoreTurns) (place : ℕ) (trusts : List Trust) (session : Session) (turns : StoreTurns) (left readings written : Option (List ℕ))
+    (d : IsDriven s first start place trusts session turns left readings written) (how : Ended) (over : session.over ≡ Some how) where
+  driven_over : (run : HasRun s how first (seen store_view d.client.books left readings written))
+      × IsInTurn s d.marks how first (seen store_view d.client.books left readings written) run × NoneCounts d.client.books
+  driven_over = subst (λ o. Holds store_view s d.marks o session first (seen store_view d.client.books left readings written) d.client.books) over d.holds
 
   pub driven_ran : (client : StoreClient) → slice_get turns.clients.items place ≡ Some client → HasRun s how first (seen store_view client.books left readings written)
   driven_ran client of_client =
       subst (λ x. HasRun s how first (seen store_view x.books left readings written)) (same_element turns.clients.items place client d.client of_client d.of_client) driven_over.0
 
+  -- one command after another
+  pub driven_in_turn : (client : StoreClient) → slice_get turns.clients.items place ≡ Some client
+      → (run : HasRun s how first (seen store_view client.books left readings written)) × IsInTurn s d.marks how first (seen store_view client.books left readings written) run
+  driven_in_turn client of_client =
+      subst (λ x. (run : HasRun s how first (seen store_view x.books left readings written)) × IsInTurn s d.marks how first (seen store_view x.books left readings written) run)
+      (same_element turns.clients.items place client d.client of_client d.of_client) (driven_over.0, driven_over.1)
+
   pub driven_rests : MayServe place trusts turns
-  driven_rests = record { client = d.client; of_client = d.of_client; are_trusts = d.are_trusts; none = driven_over.1; all_open = d.all_open }
+  driven_rests = record { client = d.client; of_client = d.of_client; are_trusts = d.are_trusts; none = driven_over.2; all_open = d.all_open }
 
 -- another client may be served as before
 pub others_serve :

@@ -8,15 +8,22 @@ use Rattle.mc_next.specs.declared.ended.Ended.{Ended}
 use Rattle.mc_next.specs.declared.ended.Stepped.{Stepped}
 use Rattle.mc_next.specs.declared.ended.Stepped.TheVariants.{Moved, Waiting}
 use Rattle.mc_next.specs.declared.session.Session.{Session}
-use Rattle.mc_next.specs.Parts.{store_kind}
+use Rattle.mc_next.specs.Parts.{StoreView, store_kind}
 use Rattle.mc_next.specs.Clients.{AreStoreTrusts}
 use Rattle.mc_next.specs.Runs.{Setting, SessionView}
 use Rattle.mc_next.specs.Sessions.{IsOf, IsSession, HasEndedSo, seen}
 use Rattle.mc_next.specs.Steps.{before_of, IsLess}
-use Rattle.mc_solo.specs.Serving.{StoreTurns, StoreClient, store_view}
+use Rattle.mc_solo.specs.Serving.{StoreTurns, StoreClient, store_view, AreMarked, GoesOn, last_state}
 
--- the whole is of one build, and the session is one of client `place` by these trusts, which began when client and devices told `first`
-pub record IsDriven (s : Setting) (first : SessionView) (place : ℕ) (trusts : List Trust) (session : Session) (turns : StoreTurns)
+-- since one state of the whole: the states at which client `place` stood at these marks, and the last of them went on to the state now
+pub record HasMarks (place : ℕ) (start now : StoreTurns) (marks : List (ℕ → StoreView)) : Type 0 where
+  pub states : List StoreTurns
+  pub marked : AreMarked place start states marks
+  pub since : GoesOn place (last_state start states) now
+
+-- the whole is of one build, and the session is one of client `place` by these trusts, which began when client and devices told `first` and the
+-- whole stood as `start`, and its marks are the client's sides at states of the whole since
+pub record IsDriven (s : Setting) (first : SessionView) (start : StoreTurns) (place : ℕ) (trusts : List Trust) (session : Session) (turns : StoreTurns)
     (left readings written : Option (List ℕ)) : Type 0 where
   pub are : AreTurns store_kind turns
   pub client : StoreClient
@@ -24,7 +31,9 @@ pub record IsDriven (s : Setting) (first : SessionView) (place : ℕ) (trusts : 
   pub are_trusts : AreStoreTrusts (length turns.tables.items) client.books trusts
   pub all_open : AllOpen client.books
   pub is_of : IsOf s trusts (length turns.tables.items)
-  pub holds : IsSession store_view s session first (seen store_view client.books left readings written) client.books
+  pub marks : List (ℕ → StoreView)
+  pub marked : HasMarks place start turns marks
+  pub holds : IsSession store_view s marks session first (seen store_view client.books left readings written) client.books
 
 -- a session is over so because it stopped, or because its input ended
 abbrev pub HasStopped : Ended → Session → Type 0

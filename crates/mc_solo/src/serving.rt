@@ -9,7 +9,7 @@ ghost use Rattle.mc_next.specs.Parts.{store_kind};
 ghost use Rattle.mc_next.specs.Runs.{Setting, SessionView};
 ghost use Rattle.mc_next.specs.Sessions.{IsFresh, IsOf, seen};
 ghost use Rattle.mc_next.specs.Steps.{IsCaused};
-ghost use Rattle.mc_solo.specs.Serving.{StoreClient, store_view, MayServe, HasServed, KeepsOthers};
+ghost use Rattle.mc_solo.specs.Serving.{StoreTurns, StoreClient, store_view, MayServe, HasServed, HasServedInTurn, KeepsOthers};
 ghost use Rattle.mc_solo.specs.Driving.{IsDriven, HasStopped, HasStepped, HasGoneOn, position};
 
 use mc_next::{Ended, Session, Stepped, sessions_begin};
@@ -29,10 +29,10 @@ fn step_at<A: Source, B: Sink, W: Clock>(
     sink: &mut B,
     clock: &mut W,
 ) -> Stepped
-    requires stands { (s : Setting) × (first : SessionView) × IsDriven s first place trusts.now session.old turns.old (A.left source.old) (W.readings clock.old) (B.written sink.old) }
+    requires stands { (s : Setting) × (first : SessionView) × (start : StoreTurns) × IsDriven s first start place trusts.now session.old turns.old (A.left source.old) (W.readings clock.old) (B.written sink.old) }
     requires going { session.old.over ≡ None }
-    ensures stands { (s : Setting) (first : SessionView) → IsDriven s first place trusts.now session.old turns.old (A.left source.old) (W.readings clock.old) (B.written sink.old)
-        → IsDriven s first place trusts.now session.new turns.new (A.left source.new) (W.readings clock.new) (B.written sink.new) }
+    ensures stands { (s : Setting) (first : SessionView) (start : StoreTurns) → IsDriven s first start place trusts.now session.old turns.old (A.left source.old) (W.readings clock.old) (B.written sink.old)
+        → IsDriven s first start place trusts.now session.new turns.new (A.left source.new) (W.readings clock.new) (B.written sink.new) }
     ensures over { (ended : Ended) → (result ≡ Stepped.Over ended) ↔ (session.new.over ≡ Some ended) }
     ensures stopped { (ended : Ended) → session.new.over ≡ Some ended → HasStopped ended session.new }
     ensures keeps { Keeps store_kind turns.old turns.new }
@@ -66,10 +66,10 @@ fn step_once<A: Source, B: Sink, W: Clock, G: Gate>(
     clock: &mut W,
     gate: &G,
 ) -> Option<Ended>
-    requires stands { (s : Setting) × (first : SessionView) × IsDriven s first place trusts.now session.old turns.old (A.left source.old) (W.readings clock.old) (B.written sink.old) }
+    requires stands { (s : Setting) × (first : SessionView) × (start : StoreTurns) × IsDriven s first start place trusts.now session.old turns.old (A.left source.old) (W.readings clock.old) (B.written sink.old) }
     requires going { session.old.over ≡ None }
-    ensures stands { (s : Setting) (first : SessionView) → IsDriven s first place trusts.now session.old turns.old (A.left source.old) (W.readings clock.old) (B.written sink.old)
-        → IsDriven s first place trusts.now session.new turns.new (A.left source.new) (W.readings clock.new) (B.written sink.new) }
+    ensures stands { (s : Setting) (first : SessionView) (start : StoreTurns) → IsDriven s first start place trusts.now session.old turns.old (A.left source.old) (W.readings clock.old) (B.written sink.old)
+        → IsDriven s first start place trusts.now session.new turns.new (A.left source.new) (W.readings clock.new) (B.written sink.new) }
     ensures over { session.new.over ≡ result }
     ensures stopped { (ended : Ended) → result ≡ Some ended → HasStopped ended session.new }
     ensures keeps { Keeps store_kind turns.old turns.new }
@@ -99,10 +99,10 @@ fn step_on<A: Source, B: Sink, W: Clock, G: Gate>(
     clock: &mut W,
     gate: &G,
 ) -> Option<Ended>
-    requires stands { (s : Setting) × (first : SessionView) × IsDriven s first place trusts.now session.old turns.old (A.left source.old) (W.readings clock.old) (B.written sink.old) }
+    requires stands { (s : Setting) × (first : SessionView) × (start : StoreTurns) × IsDriven s first start place trusts.now session.old turns.old (A.left source.old) (W.readings clock.old) (B.written sink.old) }
     requires going { session.old.over ≡ None }
-    ensures stands { (s : Setting) (first : SessionView) → IsDriven s first place trusts.now session.old turns.old (A.left source.old) (W.readings clock.old) (B.written sink.old)
-        → IsDriven s first place trusts.now session.new turns.new (A.left source.new) (W.readings clock.new) (B.written sink.new) }
+    ensures stands { (s : Setting) (first : SessionView) (start : StoreTurns) → IsDriven s first start place trusts.now session.old turns.old (A.left source.old) (W.readings clock.old) (B.written sink.old)
+        → IsDriven s first start place trusts.now session.new turns.new (A.left source.new) (W.readings clock.new) (B.written sink.new) }
     ensures over { session.new.over ≡ result }
     ensures stopped { (ended : Ended) → result ≡ Some ended → HasStopped ended session.new }
     ensures keeps { Keeps store_kind turns.old turns.new }
@@ -129,7 +129,7 @@ fn begin(session: &Session, turns: &Turns<Store, u64>, place: u32, trusts: &[Tru
     requires may { MayServe place trusts.now turns.now }
     ensures { (s : Setting) (client : StoreClient) (left readings written : Option (List ℕ)) → s.limit ≡ session.now.limit → IsOf s trusts.now (length turns.now.tables.items)
         → slice_get turns.now.clients.items place ≡ Some client
-        → IsDriven s (seen store_view client.books left readings written) place trusts.now session.now turns.now left readings written }
+        → IsDriven s (seen store_view client.books left readings written) turns.now place trusts.now session.now turns.now left readings written }
 {
     let _ = trusts;
     sessions_begin(
@@ -161,6 +161,9 @@ pub fn serve_in_turns<A: Source, B: Sink, W: Clock, G: Gate>(
     requires may { MayServe place trusts.now turns.old }
     // What was asked of each trustee, what came back, and what was read and written, are those of a session's run.
     ensures run { HasServed result place trusts.now limit turns.old turns.new (A.left source.old) (A.left source.new)
+        (W.readings clock.old) (W.readings clock.new) (B.written sink.old) (B.written sink.new) }
+    // Its commands were asked and answered one after another, while the logs of the trustees only grew.
+    ensures in_turn { HasServedInTurn result place trusts.now limit turns.old turns.new (A.left source.old) (A.left source.new)
         (W.readings clock.old) (W.readings clock.new) (B.written sink.old) (B.written sink.new) }
     // No request of the client counts afterwards, so it may serve again.
     ensures again { MayServe place trusts.now turns.new }

@@ -1,4 +1,4 @@
-use Rattle.std.proofs.Common.{map, subst, ◌∙◌, ap}
+use Rattle.std.proofs.Common.{map, subst}
 use Rattle.tm_turns.specs.Making.{HasBuilt}
 use Rattle.mc_next.specs.Parts.{store_kind}
 use Rattle.mc_solo.specs.Serving.{store_config}

@@ -1,4 +1,4 @@
-use Rattle.std.proofs.Common.{◌≡◌, length, sym, subst}
+use Rattle.std.proofs.Common.{◌≡◌, [], length, sym, subst}
 use Rattle.std.proofs.lemmas.Option.{slice_get_within}
 use Rattle.tm_pair.specs.Plain.{plain_theory}
 use Rattle.tm_trustee.proofs.Elements.{read_at, same_element}
@@ -8,6 +8,7 @@ use Rattle.mc_next.specs.Parts.{store_kind}
 use Rattle.mc_next.specs.Clients.{AreStoreTrusts}
 use Rattle.mc_next.specs.Sessions.{IsSession, seen}
 use Rattle.mc_solo.specs.Serving.{store_view}
+use Rattle.mc_solo.proofs.Marking.{marks_none}
 use Rattle.mc_solo.proofs.Standing.{home_of}
 use Rattle.mc_solo.proofs.serving.begin.Goals as goal
 
@@ -50,7 +51,9 @@ returns c = λ s client left readings written limit of of_client.
       are_trusts = subst (λ x. AreStoreTrusts (length turns.tables.items) x.books c.args.trusts.now) was may.are_trusts;
       all_open = subst (λ x. AllOpen x.books) was may.all_open;
       is_of = of;
+      marks = [];
+      marked = marks_none c.args.place turns;
       holds =
-          subst (λ x. IsSession store_view s c.args.session.now (seen store_view x.books left readings written) (seen store_view x.books left readings written) x.books) read
+          subst (λ x. IsSession store_view s [] c.args.session.now (seen store_view x.books left readings written) (seen store_view x.books left readings written) x.books) read
           (c.sessions_begin.ensures s left readings written limit);
     }

@@ -12,7 +12,7 @@ use Rattle.mc_solo.proofs.serving.serve_in_turns.Given as goal
 abbrev pub invariant-loop-ended : goal.invariant-loop-ended
 invariant-loop-ended g l = record {
   stands : (s : Setting) (client : StoreClient) → s.limit ≡ l.fn.limit → IsOf s l.trusts (length l.fn.turns.tables.items) → slice_get l.fn.turns.clients.items l.place ≡ Some client
-      → IsDriven s (seen store_view client.books (g.A.Source.left l.fn.source) (g.W.Clock.readings l.fn.clock) (g.B.Sink.written l.fn.sink)) l.place l.trusts l.session l.turns
+      → IsDriven s (seen store_view client.books (g.A.Source.left l.fn.source) (g.W.Clock.readings l.fn.clock) (g.B.Sink.written l.fn.sink)) l.fn.turns l.place l.trusts l.session l.turns
       (g.A.Source.left l.source) (g.W.Clock.readings l.clock) (g.B.Sink.written l.sink);
   going : l.session.over ≡ None;
   keeps : Keeps store_kind l.fn.turns l.turns;

@@ -7,12 +7,13 @@ use Rattle.tm_turns.proofs.Driving.{to_drive, is_to_drive}
 use Rattle.mc_next.specs.Parts.{store_kind}
 use Rattle.mc_next.specs.Steps.{before_of, IsLess}
 use Rattle.mc_solo.proofs.Positions.{never_less, nearer}
-use Rattle.mc_solo.proofs.Standing.{intake_of, both_others, none_where}
+use Rattle.mc_solo.proofs.Standing.{intake_of, none_where}
+use Rattle.mc_solo.proofs.Marking.{both_others}
 use Rattle.mc_solo.proofs.serving.step_on.Goals as goal
 
 pub loop-ended-init : goal.loop-ended-init
 loop-ended-init g c = record {
-  stands = λ s first d. d;
+  stands = λ s first start d. d;
   going = c.requires.going;
   keeps = λ config first of. of;
   others = record { as_many = refl; others = λ k other. refl };
@@ -22,16 +23,16 @@ loop-ended-init g c = record {
 }
 
 pub ahead-before-requires : goal.ahead-before-requires
-ahead-before-requires g c = let (s, first, d) = c.requires.stands in intake_of s first c.args.place c.args.trusts.now c.args.session.now c.args.turns.now _ _ _ d c.requires.going
+ahead-before-requires g c = let (s, first, start, d) = c.requires.stands in intake_of s first start c.args.place c.args.trusts.now c.args.session.now c.args.turns.now _ _ _ d c.requires.going
 
 pub step_once-requires-clause-stands : goal.step_once-requires-clause-stands
-step_once-requires-clause-stands g c = let (s, first, d) = c.requires.stands in (s, first, c.loop-ended.invariant.stands s first d)
+step_once-requires-clause-stands g c = let (s, first, start, d) = c.requires.stands in (s, first, start, c.loop-ended.invariant.stands s first start d)
 
 pub step_once-requires-clause-going : goal.step_once-requires-clause-going
 step_once-requires-clause-going g c = c.loop-ended.invariant.going
 
 pub returns-in-Some-clause-stands : goal.returns-in-Some-clause-stands
-returns-in-Some-clause-stands g c = λ s first d. c.step_once.ensures.stands s first (c.loop-ended.invariant.stands s first d)
+returns-in-Some-clause-stands g c = λ s first start d. c.step_once.ensures.stands s first start (c.loop-ended.invariant.stands s first start d)
 
 pub returns-in-Some-clause-keeps : goal.returns-in-Some-clause-keeps
 returns-in-Some-clause-keeps g c = λ config first of. c.step_once.ensures.keeps config first (c.loop-ended.invariant.keeps config first of)
@@ -45,12 +46,12 @@ returns-in-Some-clause-cause g c = λ reads writes h. c.step_once.ensures.cause 
 
 pub ahead-requires : goal.ahead-requires
 ahead-requires g c =
-    let (s, first, d) = c.requires.stands in
-    intake_of s first c.args.place c.args.trusts.now c.step_once.new.session c.step_once.new.turns _ _ _
-    (c.step_once.ensures.stands s first (c.loop-ended.invariant.stands s first d)) (c.step_once.ensures.over ∙ none_where c.step_once.result c.in_default.not-Some)
+    let (s, first, start, d) = c.requires.stands in
+    intake_of s first start c.args.place c.args.trusts.now c.step_once.new.session c.step_once.new.turns _ _ _
+    (c.step_once.ensures.stands s first start (c.loop-ended.invariant.stands s first start d)) (c.step_once.ensures.over ∙ none_where c.step_once.result c.in_default.not-Some)
 
 pub returns-then-not-is_as-clause-stands : goal.returns-then-not-is_as-clause-stands
-returns-then-not-is_as-clause-stands g c = λ s first d. c.step_once.ensures.stands s first (c.loop-ended.invariant.stands s first d)
+returns-then-not-is_as-clause-stands g c = λ s first start d. c.step_once.ensures.stands s first start (c.loop-ended.invariant.stands s first start d)
 
 pub returns-then-not-is_as-clause-keeps : goal.returns-then-not-is_as-clause-keeps
 returns-then-not-is_as-clause-keeps g c = λ config first of. c.step_once.ensures.keeps config first (c.loop-ended.invariant.keeps config first of)
@@ -90,7 +91,7 @@ loop-ended-smaller g c =
 pub loop-ended-preserved : goal.loop-ended-preserved
 loop-ended-preserved g c =
     let i = c.loop-ended.invariant in record {
-      stands = λ s first d. c.step_once.ensures.stands s first (i.stands s first d);
+      stands = λ s first start d. c.step_once.ensures.stands s first start (i.stands s first start d);
       going = c.step_once.ensures.over ∙ none_where c.step_once.result c.in_default.not-Some;
       keeps = λ config first of. c.step_once.ensures.keeps config first (i.keeps config first of);
       others = both_others c.args.place c.args.turns.now c.loop-ended.turns c.step_once.new.turns i.others c.step_once.ensures.others;

@@ -5,16 +5,16 @@ use Rattle.mc_next.specs.Numbers.{numbers_of}
 use Rattle.mc_next.specs.Parts.{store_kind}
 use Rattle.mc_next.specs.Runs.{Setting, SessionView}
 use Rattle.mc_next.specs.Steps.{before_of, IsCaused}
-use Rattle.mc_solo.specs.Serving.{KeepsOthers}
+use Rattle.mc_solo.specs.Serving.{StoreTurns, KeepsOthers}
 use Rattle.mc_solo.specs.Driving.{IsDriven, still_to_go}
 use Rattle.mc_solo.proofs.serving.step_on.Given as goal
 
 -- as much is before the session as when the loop began
 abbrev pub invariant-loop-ended : goal.invariant-loop-ended
 invariant-loop-ended g l = record {
-  stands : (s : Setting) (first : SessionView)
-      → IsDriven s first l.place l.trusts l.fn.session l.fn.turns (g.A.Source.left l.fn.source) (g.W.Clock.readings l.fn.clock) (g.B.Sink.written l.fn.sink)
-      → IsDriven s first l.place l.trusts l.session l.turns (g.A.Source.left l.source) (g.W.Clock.readings l.clock) (g.B.Sink.written l.sink);
+  stands : (s : Setting) (first : SessionView) (start : StoreTurns)
+      → IsDriven s first start l.place l.trusts l.fn.session l.fn.turns (g.A.Source.left l.fn.source) (g.W.Clock.readings l.fn.clock) (g.B.Sink.written l.fn.sink)
+      → IsDriven s first start l.place l.trusts l.session l.turns (g.A.Source.left l.source) (g.W.Clock.readings l.clock) (g.B.Sink.written l.sink);
   going : l.session.over ≡ None;
   keeps : Keeps store_kind l.fn.turns l.turns;
   others : KeepsOthers l.place l.fn.turns l.turns;

@@ -26,9 +26,9 @@ returns-in-Moved-clause-over g c =
     none_of c.step_at.new.session.over (λ ended e. moved_over c.step_at.result ended c.in-Moved.is ((c.step_at.ensures.over ended).1 e))
 
 pub returns-in-Waiting-clause-stands : goal.returns-in-Waiting-clause-stands
-returns-in-Waiting-clause-stands g c = λ s first d.
-    served_stands c.args.place c.step_at.new.turns c.serve_all.new.self c.serve_all.ensures.clients c.serve_all.ensures.keeps s first c.args.trusts.now c.step_at.new.session _ _ _
-    (c.step_at.ensures.stands s first d)
+returns-in-Waiting-clause-stands g c = λ s first start d.
+    served_stands c.args.place c.step_at.new.turns c.serve_all.new.self c.serve_all.ensures.clients c.serve_all.ensures.keeps c.serve_all.result c.serve_all.ensures.serves s first start c.args.trusts.now c.step_at.new.session _ _ _
+    (c.step_at.ensures.stands s first start d)
 
 pub returns-in-Waiting-clause-over : goal.returns-in-Waiting-clause-over
 returns-in-Waiting-clause-over g c =
@@ -36,6 +36,6 @@ returns-in-Waiting-clause-over g c =
 
 pub returns-in-Waiting-clause-goes_on : goal.returns-in-Waiting-clause-goes_on
 returns-in-Waiting-clause-goes_on g c = λ none.
-    let (s, first, d) = c.requires.stands in
+    let (s, first, start, d) = c.requires.stands in
     served_goes_on c.args.place c.step_at.new.turns c.serve_all.new.self c.serve_all.ensures.clients c.serve_all.ensures.keeps c.serve_all.result c.args.session.now
-    c.step_at.new.session c.args.turns.now (c.step_at.ensures.stands s first d).are c.serve_all.ensures.serves (c.step_at.ensures.steps.waits c.in-Waiting.is)
+    c.step_at.new.session c.args.turns.now (c.step_at.ensures.stands s first start d).are c.serve_all.ensures.serves (c.step_at.ensures.steps.waits c.in-Waiting.is)
