@@ -1,6 +1,5 @@
 -- What the classes did to parts, class by class, they did to the parts one after another.
-use Rattle.std.proofs.Common.{◌≡◌, ℕ, zero, suc, ◌<◌, true, false, cond, List, [], ◌∷◌, length, inl, inr, refl, sym, ◌∙◌, ap, subst, arith, get_or, ext_get_or}
-use Rattle.std.specs.Prelude.{◌==◌, ◌⊎◌}
+use Rattle.std.proofs.Common.{◌≡◌, ℕ, zero, suc, ◌<◌, cond, List, [], ◌∷◌, length, inl, inr, refl, sym, ◌∙◌, ap, subst, arith, get_or, ext_get_or}
 use Rattle.std.proofs.lemmas.Bool.{cases_eq, eq-eqb, ne_eqb}
 use Rattle.std.proofs.lemmas.List.{length-set}
 use Rattle.tm_seq.specs.declared.sum.Sum.TheVariants as sum
@@ -8,15 +7,12 @@ use Rattle.tm_laws.specs.Objects.{HaveRun}
 use Rattle.mc_item.specs.Classes.{class_of}
 use Rattle.mc_item.proofs.ClassFacts.{class_of-below}
 use Rattle.mc_model.specs.declared.reply.ShardReply.{ShardReply}
-use Rattle.mc_model.specs.declared.reply.ShardReply.TheVariants.{NoMemory}
 use Rattle.mc_model.specs.Class.{Class, new_class}
 use Rattle.mc_model.specs.Plain.{Part}
 use Rattle.mc_laws.specs.Classes.{class_at, with_class}
-use Rattle.mc_laws.specs.Replies.{IsClassPart, AreClassParts}
+use Rattle.mc_laws.specs.Replies.{IsClassPart}
 use Rattle.mc_laws.proofs.Parts.{class_at-same, class_at-other}
-use Rattle.mc_shard.specs.declared.op.ShardOp.{ShardOp}
 use Rattle.mc_shard.specs.Shard.{shard_step}
-use Rattle.mc_route.specs.Places.{StoreValue}
 use Rattle.mc_route.specs.Plans.{shard_op}
 use Rattle.mc_route.specs.Laws.{PartsAreSteps}
 use Rattle.mc_next.specs.Parts.{store_kind}

@@ -1,0 +1,3 @@
+pub mod Told
+pub mod Positions
+pub mod Ends
