@@ -1,0 +1,10 @@
+pub mod Openings
+pub mod Growth
+pub mod Parts
+pub mod Grown
+pub mod Stepping
+pub mod Replying
+pub mod Launching
+pub mod Chain
+pub mod First
+pub mod Alone

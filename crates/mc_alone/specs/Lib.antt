@@ -1,0 +1,3 @@
+pub mod Outputs
+pub mod Classes
+pub mod Laws
