@@ -1,120 +1,145 @@
--- How a connection ends, in the words of the program's contract.
-use Rattle.std.proofs.Common.{◌≡◌, ◌≢◌, ℕ, ◌<◌, ◌≤◌, Bool, true, false, cond, List, [], ◌++◌, length, take, Option, Ok, Err, refl, sym, ap, subst, ◌∙◌, inl, inr, arith}
-use Rattle.std.proofs.lemmas.List.{append-nil}
-use Rattle.tm_base.specs.Visible.{Grows}
-use Rattle.mc_model.specs.declared.message.Message.{Message}
-use Rattle.mc_model.specs.declared.reply.ShardReply.{ShardReply}
-use Rattle.mc_model.specs.Moments.{moments_of}
-use Rattle.mc_model.specs.Quits.{has_quit, until_quit}
-use Rattle.mc_model.specs.Stream.{Reads}
-use Rattle.mc_model.specs.Showing.{commands_of, shown_of_all}
-use Rattle.mc_model.specs.Rendering.{rendered}
-use Rattle.mc_model.specs.Class.{Class}
-use Rattle.mc_grammar.specs.declared.progress.Progress.{Progress}
-use Rattle.mc_grammar.specs.Progress.{IsUnfinished}
-use Rattle.mc_grammar.specs.Reading.{ReadsRest}
-use Rattle.mc_grammar.proofs.ReadFacts.{reads_rest}
-use Rattle.mc_grammar.proofs.Spellings.{reads_extend}
-use Rattle.mc_item.specs.declared.limits.TheConstants.{USUAL_ITEMS}
-use Rattle.mc_laws.specs.Classes.{new_classes}
-use Rattle.mc_laws.specs.Replies.{ClassesRun}
-use Rattle.mc_laws.proofs.Runs.{run_as_one}
-use Rattle.mc_session.specs.Session.{Serving}
-use Rattle.mc_top.specs.declared.connection.End.{End}
-use Rattle.mc_top.specs.declared.connection.End.TheVariants.{Between, Inside, TooMuch}
-use Rattle.mc_top.specs.declared.stop.Stop.{Stop}
-use Rattle.mc_top.specs.declared.stop.Stop.TheVariants as stop
-use Rattle.mc_top.specs.Input.{CameSoFar, CameWhole}
-use Rattle.mc_top.specs.Answering.{IsServed, IsCut}
-use Rattle.mc_top.specs.Ends.{status_of, IsEndAt}
-use Rattle.mc_top.specs.Runs.{views, Outputs, AreAnswered, IsReadAs, IsAnswered, IsBegun, EndsBetween, EndsInside, EndsEarly, EndsFailed, Does}
-use Rattle.mc_top.proofs.Quitting.{until_front, until_there, has_front}
+-- What a run has done: where it began nothing, and where a session was served.
+use Rattle.std.proofs.Common.{◌≡◌, ◌≢◌, ◌⊎◌, inl, inr, ℕ, ◌≤◌, ◌<◌, ◌^◌, true, List, [], ◌∷◌, Vec, length, map, take, Option, Some, None, String, slice_index_or, refl, sym, ap, ◌∙◌, arith, append-nil}
+use Rattle.std.specs.Global.{Global}
+use Rattle.tm_client.specs.declared.trust.Trust.{Trust}
+use Rattle.tm_pair.specs.Views.{new_client}
+use Rattle.tm_turns.specs.Making.{HasBuilt}
+use Rattle.mc_item.specs.declared.limits.TheConstants.{MOST_ITEMS, USUAL_ITEMS}
+use Rattle.mc_grammar.proofs.Spellings.{each_text_reads}
+use Rattle.mc_model.specs.Plain.{new_store}
+use Rattle.mc_model.specs.Quits.{until_quit}
+use Rattle.mc_route.specs.Places.{store_first}
+use Rattle.mc_next.specs.declared.ended.Ended.{Ended as SessionEnded}
+use Rattle.mc_next.specs.declared.ended.Ended.TheVariants as ended
+use Rattle.mc_next.specs.Parts.{store_kind}
+use Rattle.mc_next.specs.Runs.{Setting, SessionView}
+use Rattle.mc_next.specs.Sessions.{seen}
+use Rattle.mc_next.specs.Works.{named_by}
+use Rattle.mc_solo.specs.Serving.{StoreTurns, MayServe, HasServedInTurn, store_view, store_config}
+use Rattle.mc_alone.specs.Laws.{OneClientMeetsOneStore}
+use Rattle.mc_words.specs.declared.limits.TheConstants.{USUAL_BYTES, USUAL_TRUSTEES}
+use Rattle.mc_words.specs.declared.run.Run.{Run}
+use Rattle.mc_words.specs.RunWords.{IsRunInRange}
+use Rattle.mc_top.specs.declared.status.Status.{Status}
+use Rattle.mc_top.specs.declared.status.Status.TheVariants.{Ended, BadWords, NoMemory, ReadFault, WriteFault, TooMuch, EndedInside}
+use Rattle.mc_top.specs.Runs.{AreLawful, DeviceViews, views, HasAnswered, Does}
 
--- the plain store has the replies of the classes
-outputs_of : (messages : List Message) (readings : List ℕ) (replies : List (List ShardReply)) (classes : List Class) → ClassesRun (new_classes USUAL_ITEMS) (commands_of messages) (moments_of readings) replies classes → Outputs messages readings (rendered (shown_of_all messages replies))
-outputs_of messages readings replies classes run =
-    let p = run_as_one USUAL_ITEMS (commands_of messages) readings replies classes (omega arith) run in
-    record { replies = replies; store = p.0; runs = p.1; shows = refl }
+-- a session that has no client yet
+abbrev unmet : DeviceViews → SessionView
+unmet devices = record { sides = λ t. new_client 0; input = devices.input; clock = devices.clock; output = devices.output }
 
-module _ (most : ℕ) (input input_new clock clock_new written written_new : Option (List ℕ)) where
-  answered : (bytes : List ℕ) (quit : Bool) (reader : Progress) (session : Serving) (s : IsServed bytes quit clock clock_new written written_new reader session) → session.out ≡ [] → AreAnswered s.messages (views input clock written) (views input_new clock_new written_new)
-  answered bytes quit reader session s out = record {
-    readings = s.readings;
-    output = rendered (shown_of_all s.messages s.replies);
-    is_read = s.clock_read;
-    outputs = outputs_of s.messages s.readings s.replies session.classes s.runs;
-    is_written = subst (λ (l : List ℕ). Grows written written_new l) (sym (append-nil s.sent) ∙ ap (λ (o : List ℕ). s.sent ++ o) (sym out) ∙ s.gathered) s.is_written;
-  }
-
-  -- the bytes within the limit are served, and there is no `quit` among them
-  module _ (text : List ℕ) (reader : Progress) (session : Serving) (s : IsServed (take most text) false clock clock_new written written_new reader session) (out : session.out ≡ []) (unfinished : IsUnfinished reader) (came : CameSoFar input input_new text) where
-    read_as : IsReadAs most (views input clock written) (views input_new clock_new written_new) text s.messages s.is_read.held
-    unfolding ReadsRest
-    read_as = record { came = came; reads = reads_rest reader unfinished (take most text) s.messages s.is_read }
-
-    ended : (Ends : List ℕ → List Message → List ℕ → Type 0) → Ends text s.messages s.is_read.held → IsAnswered most (views input clock written) (views input_new clock_new written_new) Ends
-    ended Ends ends = record {
-      text = text;
-      messages = s.messages;
-      rest = s.is_read.held;
-      is_read = read_as;
-      ends = ends;
-      answered = subst (λ (ms : List Message). AreAnswered ms (views input clock written) (views input_new clock_new written_new)) (sym s.until) (answered (take most text) false reader session s out);
+-- memory was wanting before anything was read
+pub nothing_answered : (items max_bytes : ℕ) (devices : DeviceViews) → HasAnswered items max_bytes ended.NoMemory devices devices
+nothing_answered items max_bytes devices =
+    let (messages, rest, reads) = each_text_reads (take max_bytes []) in
+    record {
+      s = record { named = named_by []; trustees = 0; limit = max_bytes };
+      first = unmet devices;
+      now = unmet devices;
+      limit = refl;
+      at_first = refl;
+      at_end = refl;
+      answered = record {
+        text = [];
+        messages = messages;
+        rest = rest;
+        has_read = record { came = λ bytes e. (bytes, refl, e); reads = reads };
+        begun = record {
+          seen = [];
+          unseen = until_quit messages;
+          parts = refl;
+          readings = [];
+          last_reading = [];
+          once = omega arith;
+          output = [];
+          is_read = λ read e. e ∙ ap (λ l. Some l) (sym (append-nil read));
+          outputs = record { replies = []; store = new_store items; runs = (refl, refl, refl); shows = refl };
+          is_written = λ written e. (0, e ∙ ap (λ l. Some l) (sym (append-nil written)));
+        };
+      };
     }
 
-    pub ends_early : most < length text → Does most (status_of (Ok TooMuch)) (views input clock written) (views input_new clock_new written_new)
-    ends_early above = ended (EndsEarly most) (s.has, above)
+-- a session was served by the only client of a new store
+pub answered : OneClientMeetsOneStore
+    → (trustees items max_bytes : ℕ) (trusts : List Trust) (turns new : StoreTurns) (how : SessionEnded) (left left_new readings readings_new written written_new : Option (List ℕ))
+    → items ≤ MOST_ITEMS → max_bytes < 2 ^ 64
+    → HasBuilt store_kind (store_config 1 trustees) (store_first 1 trustees items) turns (trusts ∷ [])
+    → HasServedInTurn how 0 trusts max_bytes turns new left left_new readings readings_new written written_new
+    → MayServe 0 trusts turns → MayServe 0 trusts new
+    → HasAnswered items max_bytes how (views left readings written) (views left_new readings_new written_new)
+answered law trustees items max_bytes trusts turns new how left left_new readings readings_new written written_new least most built served may again =
+    let s : Setting = record { named = named_by trusts; trustees = trustees; limit = max_bytes } in
+    record {
+      s = s;
+      first = seen store_view may.client.books left readings written;
+      now = seen store_view again.client.books left_new readings_new written_new;
+      limit = refl;
+      at_first = refl;
+      at_end = refl;
+      answered =
+          law trustees items max_bytes trusts turns new how left left_new readings readings_new written written_new least most built served
+          s may.client again.client refl (record { names = refl; trustees_are = refl }) may.of_client again.of_client;
+    }
 
-    pub ends_failed : length text ≤ most → Does most (status_of (Err stop.ReadFault)) (views input clock written) (views input_new clock_new written_new)
-    ends_failed fits = ended (EndsFailed most) (s.has, fits)
+-- the trusts of the only client, as they are read of a vector of vectors
+pub one_dealt : (trusts : List (Vec Trust Global)) (read : Vec Trust Global) (list : List Trust) → length trusts ≡ 1 → read ≡ slice_index_or trusts 0 read
+    → list ≡ read.items → map (λ l. l.items) trusts ≡ list ∷ []
+one_dealt [] read list one value items = absurd (omega (arith, one))
+one_dealt (of_client ∷ []) read list one value items = ap (λ l. l ∷ []) (sym (items ∙ ap (λ (v : Vec Trust Global). v.items) value))
+one_dealt (of_client ∷ other ∷ more) read list one value items = absurd (omega (arith, one))
 
-    pub ends_over : length text ≤ most → CameWhole input input_new text → (end : End) → IsEndAt reader end → Does most (status_of (Ok end)) (views input clock written) (views input_new clock_new written_new)
-    ends_over fits whole Between at =
-        ended (EndsBetween most (views input clock written) (views input_new clock_new written_new))
-        (inr (record { came = whole; fits = fits; no_quit = s.has }, at s.is_read.held s.is_read.goes))
-    ends_over fits whole Inside at =
-        ended (EndsInside most (views input clock written) (views input_new clock_new written_new))
-        (record { came = whole; fits = fits; no_quit = s.has }, at s.is_read.held s.is_read.goes)
-    ends_over fits whole TooMuch at = absurd at
+-- ---- words
 
-  -- some of the bytes within the limit, with those behind them
-  module _ (text bytes more : List ℕ) (parts : take most text ≡ bytes ++ more) (came : CameSoFar input input_new text) where
-    pub ends_quit : (reader : Progress) (session : Serving) → IsServed bytes true clock clock_new written written_new reader session → session.out ≡ [] → IsUnfinished reader → Does most (status_of (Ok Between)) (views input clock written) (views input_new clock_new written_new)
-    unfolding ReadsRest
-    ends_quit reader session s out unfinished =
-        let e = reads_extend bytes more s.messages s.is_read.held (reads_rest reader unfinished bytes s.messages s.is_read) in
-        record {
-          text = text;
-          messages = s.messages ++ e.0;
-          rest = e.1;
-          is_read = record { came = came; reads = subst (λ (b : List ℕ). Reads b (s.messages ++ e.0) e.1) (sym parts) e.2 };
-          ends = inl (has_front s.messages e.0 s.has);
-          answered = subst (λ (ms : List Message). AreAnswered ms (views input clock written) (views input_new clock_new written_new)) (sym (until_there s.messages e.0 s.has s.until)) (answered bytes true reader session s out);
-        }
+-- what was to be done where words were refused, or could not be read
+pub unrun : (said : List (String Global)) (why : Status) (devices : DeviceViews) → (why ≡ BadWords) ⊎ (why ≡ NoMemory)
+    → (why ≡ BadWords → (run : Run) → AreLawful said run → ⊥) → (run : Run) → AreLawful said run → Does run.items run.max_bytes why devices devices
+unrun said why devices (inl bad) refused run lawful = absurd (refused bad run lawful)
+unrun said why devices (inr none) refused run lawful = rw none (nothing_answered run.items run.max_bytes devices)
 
-    begun : IsCut bytes clock clock_new written written_new → IsBegun most (views input clock written) (views input_new clock_new written_new)
-    begun c =
-        let e = reads_extend bytes more c.messages c.rest c.is_read in
-        record {
-          text = text;
-          messages = c.messages ++ e.0;
-          rest = e.1;
-          is_read = record { came = came; reads = subst (λ (b : List ℕ). Reads b (c.messages ++ e.0) e.1) (sym parts) e.2 };
-          begun = record {
-            seen = c.messages;
-            unseen = cond (has_quit c.messages) [] (until_quit e.0);
-            parts = until_front c.messages e.0 c.until;
-            readings = c.readings;
-            last_reading = c.last_reading;
-            once = c.once;
-            output = rendered (shown_of_all c.messages c.replies);
-            is_read = c.clock_read;
-            outputs = outputs_of c.messages c.readings c.replies c.classes c.runs;
-            is_written = c.is_written;
-          };
-        }
+abbrev usual_run : Run
+usual_run = record { trustees = USUAL_TRUSTEES; max_bytes = USUAL_BYTES; items = USUAL_ITEMS; turns = true }
 
-    pub ends_cut : (why : Stop) → why ≢ stop.ReadFault → IsCut bytes clock clock_new written written_new → Does most (status_of (Err why)) (views input clock written) (views input_new clock_new written_new)
-    ends_cut stop.NoMemory not c = begun c
-    ends_cut stop.ReadFault not c = absurd (not refl)
-    ends_cut stop.WriteFault not c = begun c
+usual_range : IsRunInRange usual_run
+usual_range = record { trustees = (omega arith, omega arith); max_bytes = (omega arith, omega arith); items = (omega arith, omega arith) }
+
+-- some run, with numbers that words may say, did this
+abbrev pub DoesSome : Status → DeviceViews → DeviceViews → Type 0
+DoesSome status before after = (run : Run) × IsRunInRange run × Does run.items run.max_bytes status before after
+
+pub did_nothing : (devices : DeviceViews) → DoesSome NoMemory devices devices
+did_nothing devices = (usual_run, usual_range, nothing_answered USUAL_ITEMS USUAL_BYTES devices)
+
+pub did_not_run : (status : Status) (devices : DeviceViews) → (status ≡ BadWords) ⊎ (status ≡ NoMemory) → DoesSome status devices devices
+did_not_run status devices (inl bad) = (usual_run, usual_range, rw bad refl)
+did_not_run status devices (inr none) = rw none (did_nothing devices)
+
+pub no_read_fault : (why : Status) → (why ≡ BadWords) ⊎ (why ≡ NoMemory) → why ≢ ReadFault
+no_read_fault why (inl bad) e = absurd (cc)
+no_read_fault why (inr none) e = absurd (cc)
+
+pub no_write_fault : (why : Status) → (why ≡ BadWords) ⊎ (why ≡ NoMemory) → why ≢ WriteFault
+no_write_fault why (inl bad) e = absurd (cc)
+no_write_fault why (inr none) e = absurd (cc)
+
+is_bad : (status : Status) → (status ≡ BadWords) ⊎ (status ≢ BadWords)
+is_bad BadWords = inl refl
+is_bad Ended = inr (λ e. absurd (cc))
+is_bad NoMemory = inr (λ e. absurd (cc))
+is_bad ReadFault = inr (λ e. absurd (cc))
+is_bad WriteFault = inr (λ e. absurd (cc))
+is_bad TooMuch = inr (λ e. absurd (cc))
+is_bad EndedInside = inr (λ e. absurd (cc))
+
+pub did_as_said : {X Y Z : Type 0} (left : X → Option (List ℕ)) (written : Y → Option (List ℕ)) (input input_new : X) (output output_new : Y) (clock clock_new : Z)
+    (said : List (String Global)) (status : Status)
+    → ((run : Run) → AreLawful said run → Does run.items run.max_bytes status (views (left input) None (written output)) (views (left input_new) None (written output_new)))
+    → (status ≡ BadWords → (input_new ≡ input) × (output_new ≡ output) × (clock_new ≡ clock))
+    → (status ≢ BadWords → ((run : Run) × AreLawful said run × IsRunInRange run) ⊎ ((status ≡ NoMemory) × (input_new ≡ input) × (output_new ≡ output) × (clock_new ≡ clock)))
+    → DoesSome status (views (left input) None (written output)) (views (left input_new) None (written output_new))
+did_as_said left written input input_new output output_new clock clock_new said status does untouched lawful = elim (is_bad status) [
+  | inl bad ↦ let (same_input, same_output, same_clock) = untouched bad in rw (bad, same_input, same_output) (did_not_run BadWords (views (left input) None (written output)) (inl refl))
+  | inr good ↦ elim (lawful good) [
+    | inl (run, is, range) ↦ (run, range, does run is)
+    | inr (none, same_input, same_output, same_clock) ↦ rw (none, same_input, same_output) (did_nothing (views (left input) None (written output)))
+  ]
+]

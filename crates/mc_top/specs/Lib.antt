@@ -1,5 +1,2 @@
-pub mod Answering
-pub mod Ends
-pub mod Input
 pub mod Runs
 pub mod Statuses

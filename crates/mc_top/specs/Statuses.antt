@@ -1,5 +1,7 @@
 -- The statuses of the program.
 use Rattle.std.specs.Prelude.{ℕ, List, Option, Some, None, codes}
+use Rattle.mc_next.specs.declared.ended.Ended.{Ended as SessionEnded}
+use Rattle.mc_next.specs.declared.ended.Ended.TheVariants as ended
 use Rattle.mc_top.specs.declared.status.Status.{Status}
 use Rattle.mc_top.specs.declared.status.Status.TheVariants.{Ended, BadWords, NoMemory, ReadFault, WriteFault, TooMuch, EndedInside}
 
@@ -22,3 +24,13 @@ number_of ReadFault = 3
 number_of WriteFault = 4
 number_of TooMuch = 7
 number_of EndedInside = 8
+
+-- the status of a run whose session ended so
+abbrev pub status_of : SessionEnded → Status
+status_of ended.AtEnd = Ended
+status_of ended.Quit = Ended
+status_of ended.Inside = EndedInside
+status_of ended.ReadFault = ReadFault
+status_of ended.WriteFault = WriteFault
+status_of ended.TooMuch = TooMuch
+status_of ended.NoMemory = NoMemory

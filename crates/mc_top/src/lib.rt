@@ -4,17 +4,12 @@
 //! in. [`run_process`] adds the words, the clock and the exit status of a process, and is all of the program's `main`.
 #![tactic(auto)]
 
-mod answering;
-mod connection;
-mod piece;
 mod process;
+mod serving;
 mod status;
-mod stop;
 mod top;
 mod words;
 
-pub use connection::{End, answer_all};
 pub use process::{conclude, run_process};
 pub use status::Status;
-pub use stop::Stop;
-pub use top::{MOST_INPUT, top_in_turns};
+pub use top::top_in_turns;

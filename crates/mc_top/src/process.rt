@@ -3,10 +3,12 @@ ghost use Rattle.std.specs.Prelude.{◌≡◌, ◌⊎◌, None, IfErr};
 ghost use Rattle.std.specs.Process.{exit_status};
 ghost use Rattle.tm_base.specs.Causes.{Rose};
 ghost use Rattle.mc_top.specs.Statuses.{number_of};
+ghost use Rattle.mc_words.specs.RunWords.{IsRunInRange};
+ghost use Rattle.mc_words.specs.declared.run.Run.{Run};
 ghost use Rattle.mc_top.specs.Runs.{views, Does, Exits};
 
 use crate::status::Status;
-use crate::top::{MOST_INPUT, top_in_turns};
+use crate::top::top_in_turns;
 use std::env;
 use std::hash::RandomState;
 use std::process::ExitCode;
@@ -31,7 +33,7 @@ fn run<R: Env + AllocGlobal + Clock + RandomSource, A: Source, B: Sink>(
     input: &mut A,
     output: &mut B,
 ) -> Status
-    ensures does { Does MOST_INPUT result
+    ensures does { (run : Run) × IsRunInRange run × Does run.items run.max_bytes result
         (views (A.left input.old) None (B.written output.old))
         (views (A.left input.new) None (B.written output.new)) }
     ensures read_cause { result ≡ Status.ReadFault → Rose (A.faults input.old) (A.faults input.new) }

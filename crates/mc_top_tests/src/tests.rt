@@ -34,15 +34,16 @@ fn words(alloc: Global, words: &[&str]) -> Result<Vec<String>, AllocError> {
     Ok(all)
 }
 
-// What `run --turns` writes for an input that comes in such pieces, and its status.
-fn run(
+// What a run by these words writes for an input that comes in such pieces, and its status.
+fn run_by(
     alloc: Global,
+    said: &[&str],
     clock: &[u64],
     input: &[u8],
     cuts: Vec<usize>,
     hasher: RandomState,
 ) -> Result<(Vec<u8>, Status), AllocError> {
-    let words = words(alloc, &["run", "--turns"])?;
+    let words = words(alloc, said)?;
     let mut source = MemSource::new(Vec::from_slice(alloc, input)?, cuts, Vec::new(alloc));
     let mut sink = MemSink::new(alloc, 1 << 30, Vec::new(alloc));
     let mut clock = MemClock::new(Vec::from_slice(alloc, clock)?);
@@ -56,6 +57,17 @@ fn run(
         hasher,
     );
     Ok((Vec::from_slice(alloc, sink.bytes())?, status))
+}
+
+// What `run --turns` writes so.
+fn run(
+    alloc: Global,
+    clock: &[u64],
+    input: &[u8],
+    cuts: Vec<usize>,
+    hasher: RandomState,
+) -> Result<(Vec<u8>, Status), AllocError> {
+    run_by(alloc, &["run", "--turns"], clock, input, cuts, hasher)
 }
 
 // Whether the input is answered so, whole and in pieces of so many bytes.

@@ -18,6 +18,22 @@ fn bytes_above_the_limit_are_not_answered(rt: HostRuntime) -> Result<(), Fail> {
         (24, "STORED~", Ended::TooMuch),
         (25, "STORED~VALUE a 5 3~abc~END~", Ended::AtEnd),
     ];
+    let none = Given {
+        limit: 0,
+        ..whole(alloc, "~")?
+    };
+    assert_eq!(rt;
+        answer(alloc, 3, RandomState::new(&rt)?, none)?.ended,
+        Ended::TooMuch
+    );
+    let nothing = Given {
+        limit: 0,
+        ..whole(alloc, "")?
+    };
+    assert_eq!(rt;
+        answer(alloc, 3, RandomState::new(&rt)?, nothing)?.ended,
+        Ended::AtEnd
+    );
     for (limit, output, ended) in rows {
         let given = Given {
             limit,

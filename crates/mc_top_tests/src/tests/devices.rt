@@ -1,13 +1,14 @@
 //! Runs over devices that fail, and limits of an input.
 ghost use Rattle.std.specs.Prelude.{None};
 
-use super::{NOW, text, words};
-use mc_top::{End, Status, Stop, answer_all, top_in_turns};
+use super::{NOW, run_by, text, words};
+use mc_top::{Status, top_in_turns};
 use std::alloc::{AllocError, Global};
+use std::cell::Cell;
 use std::hash::RandomState;
 use std::process::Abort;
 use std::test::Fail;
-use tm_base::{Clock, CountingGate, Failed, FreeGate, MemClock, MemSink, MemSource, Source};
+use tm_base::{Clock, Failed, FreeGate, Gate, MemClock, MemSink, MemSource, Source};
 
 const SAMPLE: &[u8] = b"set a 5 0 3\r\nabc\r\nget a\r\n";
 
@@ -155,57 +156,34 @@ fn a_failed_write_leaves_a_front(rt: HostRuntime) -> Result<(), Fail> {
     Ok(())
 }
 
-// What is written for at most so many bytes of an input, and how it ends.
-fn run_limited(
-    alloc: Global,
-    most: u64,
-    input: Vec<u8>,
-    cuts: Vec<usize>,
-    hasher: RandomState,
-) -> Result<(Vec<u8>, Result<End, Stop>), AllocError> {
-    let mut source = MemSource::new(input, cuts, Vec::new(alloc));
-    let mut sink = MemSink::new(alloc, 1 << 30, Vec::new(alloc));
-    let mut clock = MemClock::new(vec![in alloc; NOW]?);
-    let end = answer_all(
-        alloc,
-        most,
-        &mut source,
-        &mut sink,
-        &mut clock,
-        &FreeGate,
-        hasher,
-    );
-    Ok((Vec::from_slice(alloc, sink.bytes())?, end))
-}
-
 // Only the first bytes are read, and a `quit` among them is an end.
 #[test]
 fn an_input_has_a_limit(rt: HostRuntime) -> Result<(), Fail> {
     let alloc = rt.alloc();
     let all = "STORED~VALUE a 5 3~abc~END~";
     let rows = [
-        (25u64, "set a 5 0 3~abc~get a~", all, End::Between),
-        (24, "set a 5 0 3~abc~get a~", "STORED~", End::TooMuch),
-        (24, "set a 5 0 3~abc~get a", "STORED~", End::Inside),
-        (6, "quit~get a~", "", End::Between),
-        (5, "quit~get a~", "", End::TooMuch),
-        (0, "~", "", End::TooMuch),
-        (0, "", "", End::Between),
+        ("25", "set a 5 0 3~abc~get a~", all, Status::Ended),
+        ("24", "set a 5 0 3~abc~get a~", "STORED~", Status::TooMuch),
+        (
+            "24",
+            "set a 5 0 3~abc~get a",
+            "STORED~",
+            Status::EndedInside,
+        ),
+        ("6", "quit~get a~", "", Status::Ended),
+        ("5", "quit~get a~", "", Status::TooMuch),
+        ("1", "~", "", Status::TooMuch),
+        ("1", "", "", Status::Ended),
     ];
     for (most, input, output, end) in rows {
+        let said = ["run", "--turns", "--max-bytes", most];
         let read = text(alloc, input)?;
         let wanted = text(alloc, output)?;
         let ones = vec![in alloc; 1usize; read.len()]?;
-        let (written, whole) = run_limited(
-            alloc,
-            most,
-            read.clone()?,
-            Vec::new(alloc),
-            RandomState::new(&rt)?,
-        )?;
-        assert!(rt; written == wanted && whole == Ok(end), "{most} of {input}");
-        let (written, pieced) = run_limited(alloc, most, read, ones, RandomState::new(&rt)?)?;
-        assert!(rt; written == wanted && pieced == Ok(end), "{most} of {input}");
+        for cuts in [Vec::new(alloc), ones] {
+            let shown = run_by(alloc, &said, &[NOW], &read, cuts, RandomState::new(&rt)?)?;
+            assert!(rt; shown.0 == wanted && shown.1 == end, "{most} of {input}");
+        }
     }
     Ok(())
 }
@@ -244,32 +222,132 @@ fn other_words_are_bad(rt: HostRuntime) -> Result<(), Fail> {
     Ok(())
 }
 
-// The clock is read once for each command, a `quit` too, and for no fault. The gate is passed before each operation of
-// a class: one for each key, and 64 for a `stats` or `flush_all`.
+/// A gate that counts what passes it, and notes whether each number is that of those before at its trustee, and the greatest
+/// number of a trustee.
+#[derive(Drop)]
+struct Tally {
+    passed: Cell<u64>,
+    greatest: Cell<u32>,
+    counts: Cell<[u64; 32]>,
+    in_order: Cell<bool>,
+}
+
+impl Gate for Tally {
+    fn at(&self, trustee: u32, number: u64) {
+        let mut counts = self.counts.get();
+        let mut in_order = false;
+        if let Some(count) = counts.get_mut(trustee as usize) {
+            in_order = *count == number;
+            *count = number.saturating_add(1);
+        }
+        self.counts.set(counts);
+        self.in_order.set(self.in_order.get() && in_order);
+        self.greatest.set(self.greatest.get().max(trustee));
+        self.passed.set(self.passed.get().saturating_add(1));
+    }
+}
+
+// The clock is read once for each command, a `quit` too, and for no fault. Each request passes the gate of its trustee:
+// one for each key, and for a `stats` or `flush_all` the launch and one for each of the 64 classes. Of n trustees the
+// last one has the number n - 1, and a class.
 #[test]
 fn commands_read_the_clock_and_operations_pass_the_gate(rt: HostRuntime) -> Result<(), Fail> {
     let alloc = rt.alloc();
+    for (count, greatest) in [("2", 1u32), ("5", 4), ("32", 31)] {
+        let words = words(alloc, &["run", "--turns", "--trustees", count])?;
+        let gate = Tally {
+            passed: Cell::new(0),
+            greatest: Cell::new(0),
+            counts: Cell::new([0; 32]),
+            in_order: Cell::new(true),
+        };
+        let input = text(
+            alloc,
+            "set a 0 0 1~x~foo~get a b c~version~verbosity 1 noreply~flush_all 0 noreply~stats~\
+            delete a noreply~quit~get a~",
+        )?;
+        let mut source = MemSource::new(input, Vec::new(alloc), Vec::new(alloc));
+        let mut sink = MemSink::new(alloc, 1 << 30, Vec::new(alloc));
+        let mut clock = MemClock::new(vec![in alloc; 10, 11, 12, 13, 14, 15, 16, 17, 18, 19]?);
+        let status = top_in_turns(
+            alloc,
+            &words,
+            &mut source,
+            &mut sink,
+            &mut clock,
+            &gate,
+            RandomState::new(&rt)?,
+        );
+        assert_eq!(rt; status, Status::Ended);
+        assert_eq!(rt; gate.passed.get(), 135, "of {count}");
+        assert_eq!(rt; gate.greatest.get(), greatest, "of {count}");
+        assert!(rt; gate.in_order.get(), "of {count}");
+        assert_eq!(rt; clock.now(), 18);
+    }
+    Ok(())
+}
+
+/// A clock that does not tell its readings, which are 10, 11, 12 and so on.
+#[derive(Drop)]
+struct SilentClock {
+    readings: u64,
+}
+
+impl Clock for SilentClock {
+    ghost readings = { λ _. None };
+
+    fn now(&mut self) -> u64 {
+        self.readings = self.readings.saturating_add(1);
+        self.readings.saturating_add(9)
+    }
+}
+
+// A clock that does not tell its readings is read once for each command too, and that reading counts. Set at 10 for 3
+// seconds, the item is there at 11 and gone at 13.
+#[test]
+fn each_command_reads_a_silent_clock_once(rt: HostRuntime) -> Result<(), Fail> {
+    let alloc = rt.alloc();
     let words = words(alloc, &["run", "--turns"])?;
-    let gate = CountingGate::new(1);
-    let input = text(
-        alloc,
-        "set a 0 0 1~x~foo~get a b c~stats~version~quit~get a~",
-    )?;
-    let mut source = MemSource::new(input, Vec::new(alloc), Vec::new(alloc));
-    let mut sink = MemSink::new(alloc, 1 << 30, Vec::new(alloc));
-    let mut clock = MemClock::new(vec![in alloc; 10, 11, 12, 13, 14, 15, 16]?);
-    let status = top_in_turns(
-        alloc,
-        &words,
-        &mut source,
-        &mut sink,
-        &mut clock,
-        &gate,
-        RandomState::new(&rt)?,
-    );
-    assert_eq!(rt; status, Status::Ended);
-    assert_eq!(rt; gate.passed(), 68);
-    assert!(rt; gate.is_in_order());
-    assert_eq!(rt; clock.now(), 15);
+    let rows: [(&str, &str, u64); 6] = [
+        ("set a 0 3 1~x~", "STORED~", 1),
+        ("set a 0 3 1~x~get a b c~", "STORED~VALUE a 0 1~x~END~", 2),
+        (
+            "set a 0 3 1~x~get a b c~incr n 1~get a~",
+            "STORED~VALUE a 0 1~x~END~NOT_FOUND~END~",
+            4,
+        ),
+        (
+            "set a 0 3 1~x~get a b c~incr n 1~get a~stats~flush_all 0 noreply~",
+            "STORED~VALUE a 0 1~x~END~NOT_FOUND~END~STAT curr_items 0~STAT total_items 1~END~",
+            6,
+        ),
+        ("foo~", "ERROR~", 0),
+        (
+            "version~verbosity 1 noreply~foo~quit~",
+            "VERSION 1.0.0-trust~ERROR~",
+            3,
+        ),
+    ];
+    for (input, output, readings) in rows {
+        let read = text(alloc, input)?;
+        let mut source = MemSource::new(read, Vec::new(alloc), Vec::new(alloc));
+        let mut sink = MemSink::new(alloc, 1 << 30, Vec::new(alloc));
+        let mut clock = SilentClock { readings: 0 };
+        let status = top_in_turns(
+            alloc,
+            &words,
+            &mut source,
+            &mut sink,
+            &mut clock,
+            &FreeGate,
+            RandomState::new(&rt)?,
+        );
+        assert_eq!(rt; status, Status::Ended, "at {input}");
+        assert!(rt;
+            sink.bytes() == text(alloc, output)?.as_slice(),
+            "at {input}"
+        );
+        assert_eq!(rt; clock.readings, readings, "at {input}");
+    }
     Ok(())
 }

@@ -1,5 +1,6 @@
 //! Inputs at the limits of a key, a line and a value.
 use super::{NOW, shows, text};
+use mc_item::MOST_KEYS;
 use mc_top::Status;
 use std::alloc::{AllocError, Global};
 use std::hash::RandomState;
@@ -19,7 +20,7 @@ fn joined(alloc: Global, parts: &[(&str, u8, usize)]) -> Result<Vec<u8>, AllocEr
 #[test]
 fn limits_are_kept(rt: HostRuntime) -> Result<(), Fail> {
     let alloc = rt.alloc();
-    let rows: [(&[(&str, u8, usize)], &[(&str, u8, usize)]); 4] = [
+    let rows: [(&[(&str, u8, usize)], &[(&str, u8, usize)]); 5] = [
         // Keys of 250 and of 251 bytes.
         (
             &[
@@ -49,6 +50,14 @@ fn limits_are_kept(rt: HostRuntime) -> Result<(), Fail> {
                 ),
                 ("~END~", 0, 0),
             ],
+        ),
+        // A quiet one is refused in silence.
+        (
+            &[
+                ("set a 0 0 1048577 noreply~", b'y', 1_048_577),
+                ("~get a~", 0, 0),
+            ],
+            &[("END~", 0, 0)],
         ),
         // A line that is too long, and one that is as long as a line may be.
         (
@@ -94,6 +103,40 @@ fn many_keys_are_looked_up(rt: HostRuntime) -> Result<(), Fail> {
             &line,
             1,
             b"END\r\n",
+            Status::Ended,
+            RandomState::new(&rt)?
+        )?
+    );
+    Ok(())
+}
+
+// One `get` finds as many items as it may ask for, in the order of its keys.
+#[test]
+fn many_keys_are_found(rt: HostRuntime) -> Result<(), Fail> {
+    let alloc = rt.alloc();
+    let mut read = Vec::new(alloc);
+    let mut line = Vec::from_slice(alloc, b"get")?;
+    let mut written = Vec::new(alloc);
+    for number in 0..MOST_KEYS {
+        let key = format!(in alloc; "k{number}")?;
+        let size = key.len();
+        let set = format!(in alloc; "set {key} 7 0 {size} noreply\r\n{key}\r\n")?;
+        read.extend_from_slice(set.as_bytes())?;
+        line.extend_from_slice(b" ")?;
+        line.extend_from_slice(key.as_bytes())?;
+        let found = format!(in alloc; "VALUE {key} 7 {size}\r\n{key}\r\n")?;
+        written.extend_from_slice(found.as_bytes())?;
+    }
+    line.extend_from_slice(b"\r\n")?;
+    read.extend_from_slice(&line)?;
+    written.extend_from_slice(b"END\r\n")?;
+    assert!(rt;
+        shows(
+            alloc,
+            &[NOW],
+            &read,
+            997,
+            &written,
             Status::Ended,
             RandomState::new(&rt)?
         )?

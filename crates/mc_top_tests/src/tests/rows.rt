@@ -1,12 +1,12 @@
 //! Short inputs, and what is written for them.
-use super::{NOW, shows, text};
+use super::{NOW, run_by, shows, text};
 use mc_top::Status;
 use std::hash::RandomState;
 use std::process::Abort;
 use std::test::Fail;
 
 // Inputs at one moment that end between two commands, and their outputs.
-const ROWS: [(&str, &str); 24] = [
+const ROWS: [(&str, &str); 26] = [
     ("", ""),
     ("set a 5 0 3~abc~get a~", "STORED~VALUE a 5 3~abc~END~"),
     // Each change gives the next cas number of the key's class.
@@ -93,6 +93,15 @@ const ROWS: [(&str, &str); 24] = [
     // What stands behind a `quit` is not looked at.
     ("version~quit~get a~", "VERSION 1.0.0-trust~"),
     ("quit~set a 0 0 5~ab", ""),
+    (
+        "add a 0 0 1 noreply~1~incr a 1 noreply~touch a 9 noreply~delete b noreply~get a~\
+        delete a noreply~get a~",
+        "VALUE a 0 1~2~END~END~",
+    ),
+    (
+        "set a 0 0 1 noreply~x~flush_all 0 noreply~get a~verbosity 1~verbosity 1 noreply~stats~",
+        "END~OK~STAT curr_items 0~STAT total_items 1~END~",
+    ),
     // A usual client's session.
     (
         "version~set k1 0 0 2 noreply~v1~set k2 7 0 3 noreply~v22~set n 0 60 1 noreply~9~\
@@ -128,7 +137,7 @@ fn commands_are_answered(rt: HostRuntime) -> Result<(), Fail> {
 #[test]
 fn moments_are_those_of_the_clock(rt: HostRuntime) -> Result<(), Fail> {
     let alloc = rt.alloc();
-    let rows: [(&[u64], &str, &str); 5] = [
+    let rows: [(&[u64], &str, &str); 6] = [
         (
             &[1_000_000_000],
             "set a 0 2592000 1~x~set b 0 2592001 1~x~set c 0 -1 1~x~set d 0 0 1~x~get a b c d~",
@@ -153,6 +162,11 @@ fn moments_are_those_of_the_clock(rt: HostRuntime) -> Result<(), Fail> {
         (
             &[100, 100, 100, 105],
             "flush_all 5~flush_all~set a 0 0 1~x~get a~",
+            "OK~OK~STORED~VALUE a 0 1~x~END~",
+        ),
+        (
+            &[100, 100, 100, 105],
+            "flush_all 5~flush_all 0~set a 0 0 1~x~get a~",
             "OK~OK~STORED~VALUE a 0 1~x~END~",
         ),
     ];
@@ -199,5 +213,52 @@ fn an_input_may_end_inside_a_command(rt: HostRuntime) -> Result<(), Fail> {
             "at {input}"
         );
     }
+    Ok(())
+}
+
+// However many trustees there are, whole and byte by byte.
+#[test]
+fn any_number_of_trustees_answers_so(rt: HostRuntime) -> Result<(), Fail> {
+    let alloc = rt.alloc();
+    let (input, output) = (
+        "version~set k1 0 0 2 noreply~v1~set k2 7 0 3 noreply~v22~set n 0 60 1 noreply~9~\
+        get k1 k2 k3~incr n 5~touch k1 100~delete k2~flush_all 9~stats~quit~",
+        "VERSION 1.0.0-trust~VALUE k1 0 2~v1~VALUE k2 7 3~v22~END~14~TOUCHED~DELETED~OK~\
+        STAT curr_items 2~STAT total_items 3~END~",
+    );
+    let read = text(alloc, input)?;
+    let written = text(alloc, output)?;
+    for trustees in ["2", "3", "31"] {
+        let said = ["run", "--turns", "--trustees", trustees];
+        let ones = vec![in alloc; 1usize; read.len()]?;
+        for cuts in [Vec::new(alloc), ones] {
+            let shown = run_by(alloc, &said, &[NOW], &read, cuts, RandomState::new(&rt)?)?;
+            assert!(rt;
+                shown.0 == written && shown.1 == Status::Ended,
+                "of {trustees}"
+            );
+        }
+    }
+    Ok(())
+}
+
+// A class holds so many items, and the one that was used longest ago goes first. The keys `a` and `!` are of one class.
+#[test]
+fn a_class_has_so_many_items(rt: HostRuntime) -> Result<(), Fail> {
+    let alloc = rt.alloc();
+    let input = text(alloc, "set a 0 0 1~x~get a~set ! 0 0 1~y~get a !~stats~")?;
+    let output = text(
+        alloc,
+        "STORED~VALUE a 0 1~x~END~STORED~VALUE ! 0 1~y~END~STAT curr_items 1~STAT total_items 2~END~",
+    )?;
+    let shown = run_by(
+        alloc,
+        &["run", "--items", "1", "--turns", "--trustees", "2"],
+        &[NOW],
+        &input,
+        Vec::new(alloc),
+        RandomState::new(&rt)?,
+    )?;
+    assert!(rt; shown.0 == output && shown.1 == Status::Ended);
     Ok(())
 }

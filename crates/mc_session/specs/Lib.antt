@@ -1,4 +1,0 @@
-pub mod Asking
-pub mod Slots
-pub mod Answers
-pub mod Session
